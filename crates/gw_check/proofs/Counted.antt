@@ -8,8 +8,9 @@ use Rattle.gw_resolve.specs.declared.interval.Interval as declared
 use Rattle.gw_resolve.specs.Intervals.{sum, product}
 use Rattle.gw_resolve.specs.Places.{Element, count_at, within}
 use Rattle.gw_resolve.specs.Resolved.{Items, no_items, first_child}
+use Rattle.gw_leaves.specs.Counts.{chosen_count}
 use Rattle.gw_check.specs.Counts.{items_count}
-use Rattle.gw_resolve.specs.Seen.{interval, saturated, place, with_item, all_items, ChildOf}
+use Rattle.gw_resolve.specs.Seen.{interval, saturated, place, some_condition, with_item, all_items, ChildOf}
 use Rattle.gw_check.specs.own.ItemByItem.{first_count, CountsOne, CountsAll, Leads}
 use Rattle.gw_check.specs.Levels.{is_of, its, beyond, has_no_item}
 use Rattle.std.proofs.lemmas.Bool.{ne_eqb}
@@ -26,14 +27,14 @@ count_more scope i is one more total a b e tables =
   where
     go : (i : Item) → saturated (sum (first_count scope (with_item tables i no_items)) (items_count scope (all_items tables is))) ≡ saturated (items_count scope (with_item tables i (all_items tables is)))
     go (Segment s) = refl
-    go (Group' line child from shape row) = refl
-    go (Flat' line from shape row) = refl
+    go (Group' line child from asked shape row) = refl
+    go (Flat' line from asked shape row) = refl
 
-pub count_flat : (scope inner : List Element) (i : Item) (f : FlatItem) (at each c : declared.Interval) → i ≡ Flat f → interval at ≡ saturated (count_at scope (place f.place)) → inner ≡ within scope (place f.place) → CountsAll inner f.items.items each → interval c ≡ saturated (product (interval at) (interval each)) → CountsOne scope i c
+pub count_flat : (scope inner : List Element) (i : Item) (f : FlatItem) (at each c : declared.Interval) → i ≡ Flat f → interval at ≡ saturated (chosen_count (some_condition f.condition) (count_at scope (place f.place))) → inner ≡ within scope (place f.place) → CountsAll inner f.items.items each → interval c ≡ saturated (product (interval at) (interval each)) → CountsOne scope i c
 count_flat scope inner i f at each c is often there more e tables =
     e ∙ ap (λ x. saturated (product x (interval each))) often
-    ∙ ap (λ x. saturated (product (saturated (count_at scope (place f.place))) x)) (more tables ∙ ap (λ s. saturated (items_count s (all_items tables f.items.items))) there)
-    ∙ product_saturated (count_at scope (place f.place)) (items_count (within scope (place f.place)) (all_items tables f.items.items))
+    ∙ ap (λ x. saturated (product (saturated (chosen_count (some_condition f.condition) (count_at scope (place f.place)))) x)) (more tables ∙ ap (λ s. saturated (items_count s (all_items tables f.items.items))) there)
+    ∙ product_saturated (chosen_count (some_condition f.condition) (count_at scope (place f.place))) (items_count (within scope (place f.place)) (all_items tables f.items.items))
     ∙ sym (ap (λ x. saturated (first_count scope x)) (ap (λ j. with_item tables j no_items) is ∙ flat_items tables f no_items))
 
 -- ---- from the last item on
@@ -56,13 +57,13 @@ count_done scope items left total none h = let zero : left ≡ 0 = omega (arith,
 -- an item of node j, and one of another
 one_of : (tables : List TableValue) (j : ℕ) (i : Item) (rest : Items) → is_of j (first_child (with_item tables i no_items)) ≡ true → (its j (with_item tables i rest) ≡ with_item tables i (its j rest)) × (beyond j (with_item tables i rest) ≡ beyond j rest)
 one_of tables j (Segment s) rest e = rw e (refl, refl)
-one_of tables j (Group' line child from shape row) rest e = rw e (refl, refl)
-one_of tables j (Flat' line from shape row) rest e = rw e (refl, refl)
+one_of tables j (Group' line child from asked shape row) rest e = rw e (refl, refl)
+one_of tables j (Flat' line from asked shape row) rest e = rw e (refl, refl)
 
 other_of : (tables : List TableValue) (j : ℕ) (i : Item) (rest : Items) → is_of j (first_child (with_item tables i no_items)) ≡ false → (its j (with_item tables i rest) ≡ no_items) × (beyond j (with_item tables i rest) ≡ with_item tables i rest)
 other_of tables j (Segment s) rest e = rw e (refl, refl)
-other_of tables j (Group' line child from shape row) rest e = rw e (refl, refl)
-other_of tables j (Flat' line from shape row) rest e = rw e (refl, refl)
+other_of tables j (Group' line child from asked shape row) rest e = rw e (refl, refl)
+other_of tables j (Flat' line from asked shape row) rest e = rw e (refl, refl)
 
 -- the first n items are of node j
 pub record LeadsSoFar (j : ℕ) (is : List Item) (n : ℕ) : Type 0 where
@@ -132,5 +133,5 @@ none_there tables (i ∷ is) = ne_eqb (length (i ∷ is)) 0 (λ e. omega (arith,
   where
     go : (i : Item) → has_no_item (with_item tables i (all_items tables is)) ≡ false
     go (Segment s) = refl
-    go (Group' line child from shape row) = refl
-    go (Flat' line from shape row) = refl
+    go (Group' line child from asked shape row) = refl
+    go (Flat' line from asked shape row) = refl

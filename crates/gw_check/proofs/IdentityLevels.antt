@@ -46,7 +46,7 @@ none_yet j k (segment s rest) less = by (line.is_forbidden (Some s.usage)) (none
     other = ne_eqb k j (λ e. omega (arith, less, e))
 
     item : SegmentItem
-    item = record { line = 0; child = k; place = Some (at_node k); rules = same_rules s.fields }
+    item = record { line = 0; child = k; place = Some (at_node k); condition = None; rules = same_rules s.fields }
 
     by : (b : Bool) → (its j (same (suc k) rest) ≡ no_items) × (beyond j (same (suc k) rest) ≡ same (suc k) rest) →
         (its j (if b then same (suc k) rest else segment_item item (same (suc k) rest)) ≡ no_items) × (beyond j (if b then same (suc k) rest else segment_item item (same (suc k) rest)) ≡ (if b then same (suc k) rest else segment_item item (same (suc k) rest)))
@@ -91,7 +91,7 @@ levels_hold names e scope holder j (segment s rest) h d l g =
     by (line.is_forbidden (Some s.usage)) refl (levels_hold names e scope holder (suc j) rest (behind_segment (nodes_of e) j s rest h d) d.1 l.1 g)
   where
     item : SegmentItem
-    item = record { line = 0; child = j; place = Some (at_node j); rules = same_rules s.fields }
+    item = record { line = 0; child = j; place = Some (at_node j); condition = None; rules = same_rules s.fields }
 
     later : Items
     later = same (suc j) rest
@@ -122,7 +122,7 @@ levels_hold names e scope holder j (group x nodes rest) h d l g =
     (ap (level_failures (e ∷ scope) holder (suc j) rest) others ∙ levels_hold names e scope holder (suc j) rest (behind_group (nodes_of e) j x nodes rest h d) d.1 l.1 g.2)
   where
     item : GroupItem
-    item = record { line = 0; child = j; place = at_node j }
+    item = record { line = 0; child = j; place = at_node j; condition = None }
 
     later : Items
     later = same (suc j) rest
@@ -150,7 +150,7 @@ items_hold profile names e scope j (segment s rest) h d l g =
     by (line.is_forbidden (Some s.usage)) (items_hold profile names e scope (suc j) rest (behind_segment (nodes_of e) j s rest h d) d.1 l.1 g)
   where
     item : SegmentItem
-    item = record { line = 0; child = j; place = Some (at_node j); rules = same_rules s.fields }
+    item = record { line = 0; child = j; place = Some (at_node j); condition = None; rules = same_rules s.fields }
 
     here : Stands (nodes_of e) j s.label (a_segment s)
     here = segment_stands (nodes_of e) j s rest h

@@ -10,7 +10,7 @@ use Rattle.gw_profile.specs.WellFormed.{LawfulGroup, EachGroup}
 use Rattle.gw_profile.specs.WellFormed as formed
 use Rattle.gw_maplang.specs.Shapes as raw
 use Rattle.gw_maplang.specs.Shapes.{TableValue}
-use Rattle.gw_maplang.specs.Identity.{field_rules, copy_rule, same_items}
+use Rattle.gw_maplang.specs.Identity.{walk_all, field_rules, copy_rule, same_items}
 use Rattle.gw_resolve.specs.Failures.{Mark, at_line, Failure, fails, where_so, or_later}
 use Rattle.gw_resolve.specs.Places.{Place, Element, a_segment, a_group, Found, nodes_of, child, nodes_of_child, found, element_of, within}
 use Rattle.gw_resolve.specs.Intervals.{once, product}
@@ -42,8 +42,8 @@ abbrev pub same : ℕ → Forest → Items
 same j nothing = no_items
 same j (segment s rest) =
     if is_forbidden (Some s.usage) then same (suc j) rest
-    else segment_item (record { line = 0; child = j; place = Some (at_node j); rules = same_rules s.fields }) (same (suc j) rest)
-same j (group g nodes rest) = group_item (record { line = 0; child = j; place = at_node j }) (same 0 nodes) (same (suc j) rest)
+    else segment_item (record { line = 0; child = j; place = Some (at_node j); condition = None; rules = same_rules s.fields }) (same (suc j) rest)
+same j (group g nodes rest) = group_item (record { line = 0; child = j; place = at_node j; condition = None }) (same 0 nodes) (same (suc j) rest)
 
 -- ---- no failures
 
@@ -192,10 +192,10 @@ module _ (s : SegmentValue) (scope : List Element) where
 -- ---- no path fails
 
 abbrev segment_of : SegmentValue → raw.SegmentItem
-segment_of s = record { line = 0; label = s.label; source = Some (s.label ∷ []); rules = field_rules s.label s.fields }
+segment_of s = record { line = 0; label = s.label; source = Some (walk_all s.label); rules = field_rules s.label s.fields }
 
 abbrev group_of : GroupValue → raw.GroupItem
-group_of g = record { line = 0; label = g.label; path = g.label ∷ [] }
+group_of g = record { line = 0; label = g.label; walk = walk_all g.label }
 
 pub paths_hold : (e : Element) (scope : List Element) (j : ℕ) (nodes : Forest) → Standing (nodes_of e) j nodes → Distinct (formed.labels nodes) → EachGroup LawfulGroup nodes → path_failures (e ∷ scope) (same_items nodes) ≡ []
 paths_hold e scope j nothing h d g = refl
@@ -204,7 +204,7 @@ paths_hold e scope j (segment s rest) h d g = by (is_forbidden (Some s.usage)) (
     here : Stands (nodes_of e) j s.label (a_segment s)
     here = segment_stands (nodes_of e) j s rest h
 
-    rules : flat_map (rule_failures (walked_if (e ∷ scope) (Some (s.label ∷ [])))) (field_rules s.label s.fields) ≡ []
+    rules : flat_map (rule_failures (walked_if (e ∷ scope) (Some (walk_all s.label)))) (field_rules s.label s.fields) ≡ []
     rules = ap (λ w. flat_map (rule_failures w) (field_rules s.label s.fields)) (walked_there e scope j s.label (a_segment s) here) ∙ rules_hold s (e ∷ scope) s.fields
 
     by : (b : Bool) → path_failures (e ∷ scope) (same_items rest) ≡ [] → path_failures (e ∷ scope) (if b then same_items rest else raw.segment (segment_of s) (same_items rest)) ≡ []
@@ -262,14 +262,14 @@ items_are tables e scope j (segment s rest) h d g = by (is_forbidden (Some s.usa
     walks : place_or (e ∷ scope) (s.label ∷ []) ≡ at_node j
     walks = place_is e scope j s.label (a_segment s) here
 
-    rules : map (rule tables (walked_if (e ∷ scope) (Some (s.label ∷ [])))) (field_rules s.label s.fields) ≡ same_rules s.fields
+    rules : map (rule tables (walked_if (e ∷ scope) (Some (walk_all s.label)))) (field_rules s.label s.fields) ≡ same_rules s.fields
     rules = ap (λ w. map (rule tables w) (field_rules s.label s.fields)) (walked_there e scope j s.label (a_segment s) here) ∙ rules_are s (e ∷ scope) tables s.fields
 
     by : (b : Bool) → resolved_items tables (e ∷ scope) (nodes_of e) (same_items rest) ≡ same (suc j) rest →
         resolved_items tables (e ∷ scope) (nodes_of e) (if b then same_items rest else raw.segment (segment_of s) (same_items rest))
-        ≡ (if b then same (suc j) rest else segment_item (record { line = 0; child = j; place = Some (at_node j); rules = same_rules s.fields }) (same (suc j) rest))
+        ≡ (if b then same (suc j) rest else segment_item (record { line = 0; child = j; place = Some (at_node j); condition = None; rules = same_rules s.fields }) (same (suc j) rest))
     by true later = later
-    by false later = λ i. segment_item (record { line = 0; child = number i; place = Some (walks i); rules = rules i }) (later i)
+    by false later = λ i. segment_item (record { line = 0; child = number i; place = Some (walks i); condition = None; rules = rules i }) (later i)
 items_are tables e scope j (group x nodes rest) h d g =
     let here = group_stands (nodes_of e) j x nodes rest h in
     let number = number_there (nodes_of e) j 0 x.label (a_group x nodes) here in
@@ -279,4 +279,4 @@ items_are tables e scope j (group x nodes rest) h d g =
     let inner : resolved_items tables (within (e ∷ scope) (place_or (e ∷ scope) (x.label ∷ []))) (nodes_of_child (nodes_of e) (node_or 0 (nodes_of e) x.label)) (same_items nodes) ≡ same 0 nodes =
     (λ i. resolved_items tables (scoped i) (below i) (same_items nodes)) ∙ items_are tables (a_group x nodes) (e ∷ scope) 0 nodes (from_the_first nodes) g.0.distinct g.1 in
     let later = items_are tables e scope (suc j) rest (behind_group (nodes_of e) j x nodes rest h d) d.1 g.2 in
-    λ i. group_item (record { line = 0; child = number i; place = walks i }) (inner i) (later i)
+    λ i. group_item (record { line = 0; child = number i; place = walks i; condition = None }) (inner i) (later i)

@@ -1,5 +1,5 @@
 -- No field is passed over by the map from a profile to itself.
-use Rattle.std.proofs.Common.{◌≡◌, ℕ, suc, Bool, true, false, List, [], ◌∷◌, ◌++◌, Some, refl, sym, ap, ap₂, ◌∙◌}
+use Rattle.std.proofs.Common.{◌≡◌, ℕ, suc, Bool, true, false, List, [], ◌∷◌, ◌++◌, Some, None, refl, sym, ap, ap₂, ◌∙◌}
 use Rattle.std.specs.Prelude.{if◌then◌else◌, ◌==◌, ◌&&◌, ◌||◌, not, bytes_eq, flat_map}
 use Rattle.std.proofs.lemmas.Bool.{eq-eqb}
 use Rattle.std.proofs.lemmas.List.{append-nil}
@@ -67,7 +67,7 @@ reads_hold made scope above to j nothing h = refl
 reads_hold made scope above to j (segment s rest) h = by (line.is_forbidden (Some s.usage)) refl h (reads_hold made scope above to (suc j) rest)
   where
     item : SegmentItem
-    item = record { line = 0; child = j; place = Some (at_node j); rules = same_rules s.fields }
+    item = record { line = 0; child = j; place = Some (at_node j); condition = None; rules = same_rules s.fields }
 
     passed : List SourceField
     passed = flat_map (missed_field (known made) (above ++ j ∷ [])) s.fields

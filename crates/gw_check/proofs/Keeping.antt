@@ -16,11 +16,11 @@ use Rattle.gw_maplang.specs.Shapes as raw
 use Rattle.gw_maplang.specs.Shapes.{TableValue, table_of, MapValue}
 use Rattle.gw_maplang.specs.Lawful as theirs
 use Rattle.gw_resolve.specs.Places.{Element, the_whole, child, nodes_of_child, name_of, within}
-use Rattle.gw_resolve.specs.Resolved.{Rule}
+use Rattle.gw_resolve.specs.Resolved.{Alternative, Rule}
 use Rattle.gw_resolve.specs.Order.{is_segment, is_group, are_placed}
 use Rattle.gw_resolve.specs.Lawful.{LawfulRows, LawfulSource, LawfulLeaf, LawfulAt, LawfulLeaves, LawfulMaking, LawfulRule, LawfulItems, places}
 use Rattle.gw_profile.specs.Labels.{labelled}
-use Rattle.gw_resolve.specs.Naming.{node_or, walked_if, place_or, target_failures, naming_failures, no_rows, source, leaf, at_leaf, making, rule, resolved_items, resolved}
+use Rattle.gw_resolve.specs.Naming.{node_or, walked_if, place_or, target_failures, naming_failures, no_rows, source, leaf, alternative, at_leaf, making, rule, resolved_items, resolved}
 use Rattle.gw_check.proofs.Placing.{first_or_later, nil_both, named, number_is, segment_parts, group_parts, flat_parts, placed_where_named}
 
 -- ---- fields of target segments
@@ -105,9 +105,13 @@ leaf_kept tables names scope repeated (raw.Copy ref) t h = source_kept scope rep
 leaf_kept tables names scope repeated (raw.Lookup table ref) t h = (row_of_one tables table t, source_kept scope repeated ref h.1)
 leaf_kept tables names scope repeated (raw.Date digits ref) t h = source_kept scope repeated ref h.1
 
+others_kept : (tables : List TableValue) (names : List (List ℕ)) (scope : List Element) (repeated : Bool) (os : List raw.Alternative) → AllByRecursion theirs.LawfulTable tables → theirs.LawfulOthers names repeated os → AllByRecursion (λ (o : Alternative). LawfulLeaf repeated o.leaf) (map (alternative tables scope) os)
+others_kept tables names scope repeated [] t h = tt
+others_kept tables names scope repeated (o ∷ os) t h = (leaf_kept tables names scope repeated o.leaf t h.0, others_kept tables names scope repeated os t h.1)
+
 at_kept : (tables : List TableValue) (names : List (List ℕ)) (scope : List Element) (repeated : Bool) (ls : List raw.LeafValue) → AllByRecursion theirs.LawfulTable tables → AllByRecursion (theirs.LawfulLeafValue names repeated) ls → AllByRecursion (LawfulAt repeated) (map (at_leaf tables scope) ls)
 at_kept tables names scope repeated [] t h = tt
-at_kept tables names scope repeated (l ∷ ls) t h = (record { comp = h.0.0.comp.0; sub = h.0.0.sub.0; leaf = leaf_kept tables names scope repeated l.leaf t h.0.1 }, at_kept tables names scope repeated ls t h.1)
+at_kept tables names scope repeated (l ∷ ls) t h = (record { comp = h.0.0.comp.0; sub = h.0.0.sub.0; each = (leaf_kept tables names scope repeated l.leaf t h.0.1, others_kept tables names scope repeated l.others t h.0.2) }, at_kept tables names scope repeated ls t h.1)
 
 same_places : (tables : List TableValue) (scope : List Element) (ls : List raw.LeafValue) → places (map (at_leaf tables scope) ls) ≡ theirs.places ls
 same_places tables scope [] = refl
@@ -153,13 +157,13 @@ items_kept tables names scope nodes j (raw.group g items rest) t h f e =
     let p = group_parts nodes j g items rest e in
     let n = named nodes is_group j g.line g.label refl p.label in
     let same = number_is nodes g.label n.number j n.at ∙ sym (number_is nodes g.label n.number 0 n.at) in (
-      items_kept tables names (within scope (place_or scope g.path)) (nodes_of_child nodes (node_or 0 nodes g.label)) 0 items t h.1 (fair_below nodes (node_or 0 nodes g.label) f)
+      items_kept tables names (within scope (place_or scope g.walk.path)) (nodes_of_child nodes (node_or 0 nodes g.label)) 0 items t h.1 (fair_below nodes (node_or 0 nodes g.label) f)
           (subst (λ c. target_failures (nodes_of_child nodes c) 0 items ≡ []) same p.inner),
       items_kept tables names scope nodes (node_or j nodes g.label) rest t h.2 f p.others,
     )
 items_kept tables names scope nodes j (raw.flat w items rest) t h f e =
     let p = flat_parts nodes j w items rest e in
-    (items_kept tables names (within scope (place_or scope w.path)) nodes 0 items t h.1 f p.inner, items_kept tables names scope nodes _ rest t h.2 f p.others)
+    (items_kept tables names (within scope (place_or scope w.walk.path)) nodes 0 items t h.1 f p.inner, items_kept tables names scope nodes _ rest t h.2 f p.others)
 
 -- ---- the map
 

@@ -142,7 +142,7 @@ first_is tables scope names nodes raw.nothing h some = absurd (some refl)
 first_is tables scope names nodes (raw.segment s rest) h some = refl
 first_is tables scope names nodes (raw.group g items rest) h some = refl
 first_is tables scope names nodes (raw.flat f items rest) h some =
-    first_is tables (within scope (place_or scope f.path)) names nodes items h.1 h.0.some
+    first_is tables (within scope (place_or scope f.walk.path)) names nodes items h.1 h.0.some
     ∙ ap (λ l. Some (node_or 0 nodes l)) (sym (first_of_both (labels items) (labels rest) (some_labels names items h.1 h.0.some)))
 
 all_both : (test : List ℕ → Bool) (a b : List (List ℕ)) → list_all test (a ++ b) ≡ true → (list_all test a ≡ true) × (list_all test b ≡ true)
@@ -183,7 +183,7 @@ fit tables names scope nodes (raw.segment s rest) h =
 fit tables names scope nodes (raw.group g items rest) h =
     let behind = fit tables names scope nodes rest h.2 in
     let others = resolved_items tables scope nodes rest in
-    let inner = within scope (place_or scope g.path) in
+    let inner = within scope (place_or scope g.walk.path) in
     record {
       placed = λ j e.
           let p = group_parts nodes j g items rest e in
@@ -210,7 +210,7 @@ fit tables names scope nodes (raw.group g items rest) h =
 fit tables names scope nodes (raw.flat f items rest) h =
     let behind = fit tables names scope nodes rest h.2 in
     let others = resolved_items tables scope nodes rest in
-    let inner = within scope (place_or scope f.path) in
+    let inner = within scope (place_or scope f.walk.path) in
     let below = fit tables names inner nodes items h.1 in
     let made = resolved_items tables inner nodes items in
     record {

@@ -40,8 +40,8 @@ lighter_flat i f is same items =
 
 weight_more : (i : Item) (rest : Items) → weight (with_item [] i rest) ≡ weight_one i + weight rest
 weight_more (Segment s) rest = omega arith
-weight_more (Group' line j from shape row) rest = omega arith
-weight_more (Flat' line from shape row) rest = omega arith
+weight_more (Group' line j from asked shape row) rest = omega arith
+weight_more (Flat' line from asked shape row) rest = omega arith
 
 pub not_heavier : (items : List Item) (k : ℕ) (i : Item) → k < length items → i ≡ get_or items k i → weight_one i ≤ weight_all items
 not_heavier [] k i low at = absurd (omega (arith, low))
@@ -53,8 +53,8 @@ module _ (tables : List TableValue) (from to : profiles.ProfileValue) where
 
   first_and_rest : (scope : List Element) (nodes : Forest) (i : Item) (rest : Items) → items_failures from to scope nodes (with_item tables i rest) ≡ items_failures from to scope nodes (with_item tables i no_items) ++ items_failures from to scope nodes rest
   first_and_rest scope nodes (Segment s) rest = ap (λ l. l ++ items_failures from to scope nodes rest) (sym (append-nil _))
-  first_and_rest scope nodes (Group' line j from' shape row) rest = ap (λ l. l ++ items_failures from to scope nodes rest) (sym (append-nil _))
-  first_and_rest scope nodes (Flat' line from' shape row) rest = ap (λ l. l ++ items_failures from to scope nodes rest) (sym (append-nil _))
+  first_and_rest scope nodes (Group' line j from' asked shape row) rest = ap (λ l. l ++ items_failures from to scope nodes rest) (sym (append-nil _))
+  first_and_rest scope nodes (Flat' line from' asked shape row) rest = ap (λ l. l ++ items_failures from to scope nodes rest) (sym (append-nil _))
 
   pub items_more : (scope : List Element) (nodes : Forest) (items : List Item) (k : ℕ) (i : Item) (first : List Failure) (old new : Vec declared.Failure) → k < length items → i ≡ get_or items k i → Notes old new (items_failures from to scope nodes (with_item tables i no_items)) →
       first ++ items_failures from to scope nodes (all_items tables items) ≡ failures old.items ++ items_failures from to scope nodes (all_items tables (drop k items)) →

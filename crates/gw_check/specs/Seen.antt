@@ -3,11 +3,12 @@ use Rattle.std.specs.Prelude.{◌≡◌, ◌++◌, ℕ, List, [], ◌∷◌, map
 use denote.Ref.{Bor}
 use Rattle.gw_maplang.specs.Shapes.{TableValue, Rows, table_of}
 use Rattle.gw_resolve.specs.Naming.{no_rows}
-use Rattle.gw_resolve.specs.Resolved.{Reference, SegmentItem}
-use Rattle.gw_resolve.specs.Seen.{reference, place, rule}
+use Rattle.gw_resolve.specs.Resolved.{Reference, Alternative, SegmentItem}
+use Rattle.gw_resolve.specs.Positions.{Position}
+use Rattle.gw_resolve.specs.Seen.{reference, place, some_condition, rule}
 use Rattle.gw_resolve.specs.declared.resolved.SegmentItem as segments
 use Rattle.gw_resolve.specs.declared.resolved.Reference as references
-use Rattle.gw_check.specs.Sites.{Spot, Origin, unsaid, text, read, repeated, given, cut, Site, site_of}
+use Rattle.gw_check.specs.Sites.{Spot, Origin, unsaid, text, read, repeated, given, cut, Site, site_of, other_sites}
 use Rattle.gw_check.specs.declared.segments.Target.{Target}
 use Rattle.gw_check.specs.declared.site.ElementPath as spots
 use Rattle.gw_check.specs.declared.site.Origin as origins
@@ -42,6 +43,10 @@ all_sites tables = map (site tables)
 abbrev pub made : ℕ → Target → Origin → List Site
 made line t origin = site_of line t.at.now t.field t.part.comp t.part.sub origin ∷ []
 
+-- what the line of a leaf makes of a place
+abbrev pub other_made : List Position → Option Reference → Target → Alternative → List Site
+other_made scope walked place = other_sites scope walked place.at.now place.field place.part.comp place.part.sub
+
 abbrev pub some_reference : Option (Bor references.Reference) → Option Reference
 some_reference from = option_map (λ b. reference b.now) from
 
@@ -49,7 +54,7 @@ abbrev pub some_site : List TableValue → Option (Bor declared.Site) → Option
 some_site tables s = option_map (λ b. site tables b.now) s
 
 abbrev pub segment_item : List TableValue → segments.SegmentItem → SegmentItem
-segment_item tables s = record { line = s.line; child = s.child; place = option_map place s.place; rules = map (rule tables) s.rules.items }
+segment_item tables s = record { line = s.line; child = s.child; place = option_map place s.place; condition = some_condition s.condition; rules = map (rule tables) s.rules.items }
 
 -- these were found as well
 abbrev pub Adds : List TableValue → List declared.Site → List declared.Site → List Site → Type 0

@@ -2,7 +2,7 @@
 use Rattle.std.specs.Prelude.{ℕ, ◌==◌, List, [], ◌∷◌, ◌++◌, flat_map, find, Option, Some, None, option_to_list}
 use Rattle.gw_maplang.specs.Shapes.{Rows}
 use Rattle.gw_resolve.specs.Places.{Place}
-use Rattle.gw_resolve.specs.Resolved.{Reference, Source, of_field, of_current, Leaf, const, copied, looked_up, dated, At, Making, copy, first, repeat, build, Rule, SegmentItem, Items, no_items, segment_item, group_item, flat_item, first_child}
+use Rattle.gw_resolve.specs.Resolved.{Reference, FieldCondition, Source, of_field, of_current, Leaf, const, copied, looked_up, dated, Alternative, At, alternatives, Making, copy, first, repeat, build, Rule, SegmentItem, Items, no_items, segment_item, group_item, flat_item, first_child}
 use Rattle.gw_resolve.specs.Positions.{Position, position, walked, inner, inner_if}
 
 -- An element of a profile: a node, by the numbers of the nodes from the top on, or in it a field, a component, a subcomponent; 0 is said where the whole is meant.
@@ -60,9 +60,13 @@ node_origin scope place = read (spot_at scope place 0 0 0)
 
 -- ---- rules
 
--- a leaf of a field, in the segment at this position
+-- one of the leaves of a place of a field, in the segment at this position
+abbrev pub other_sites : List Position → Option Reference → Position → ℕ → ℕ → ℕ → Alternative → List Site
+other_sites scope around at field comp sub o = site_of o.line at field comp sub (leaf_origin scope around o.leaf) ∷ []
+
+-- all of them
 abbrev pub leaf_sites : List Position → Option Reference → Position → ℕ → At → List Site
-leaf_sites scope around at field a = site_of a.line at field a.comp a.sub (leaf_origin scope around a.leaf) ∷ []
+leaf_sites scope around at field a = flat_map (other_sites scope around at field a.comp a.sub) (alternatives a)
 
 -- leaves stand before their field: of a rule of one leaf in one line the leaf is named
 abbrev pub making_sites : List Position → Position → ℕ → ℕ → Making → List Site
@@ -86,19 +90,29 @@ origin_if scope (Some place) = node_origin scope place
 abbrev pub node_sites : ℕ → Position → Origin → List Site
 node_sites line at origin = site_of line at 0 0 0 origin ∷ []
 
+-- of what a condition reads, within what is walked
+abbrev pub condition_sites : List Position → ℕ → Position → Option FieldCondition → List Site
+condition_sites scope line at None = []
+condition_sites scope line at (Some c) = node_sites line at (read (spot_at scope c.from.place c.from.field c.condition.place.comp c.condition.place.sub))
+
+-- of what is made for each occurrence at a place
+abbrev pub each_sites : List Position → ℕ → Position → Place → Option FieldCondition → List Site
+each_sites scope line at place condition = node_sites line at (node_origin scope place) ++ condition_sites (inner scope place) line at condition
+
 -- of a segment at this position
 abbrev pub segment_sites : List Position → Position → SegmentItem → List Site
-segment_sites scope at s = node_sites s.line at (origin_if scope s.place) ++ rules_sites (inner_if scope s.place) at s.rules
+segment_sites scope at s =
+    (node_sites s.line at (origin_if scope s.place) ++ condition_sites (inner_if scope s.place) s.line at s.condition) ++ rules_sites (inner_if scope s.place) at s.rules
 
 -- below the target's element at a position; a `flat` makes what its items make
 abbrev pub items_sites : List Position → Position → Items → List Site
 items_sites scope above no_items = []
 items_sites scope above (segment_item s rest) = segment_sites scope (above ++ s.child ∷ []) s ++ items_sites scope above rest
 items_sites scope above (group_item g items rest) =
-    (node_sites g.line (above ++ g.child ∷ []) (node_origin scope g.place) ++ items_sites (inner scope g.place) (above ++ g.child ∷ []) items)
+    (each_sites scope g.line (above ++ g.child ∷ []) g.place g.condition ++ items_sites (inner scope g.place) (above ++ g.child ∷ []) items)
     ++ items_sites scope above rest
 items_sites scope above (flat_item f items rest) =
-    (node_sites f.line (above ++ option_to_list (first_child items)) (node_origin scope f.place) ++ items_sites (inner scope f.place) above items)
+    (each_sites scope f.line (above ++ option_to_list (first_child items)) f.place f.condition ++ items_sites (inner scope f.place) above items)
     ++ items_sites scope above rest
 
 -- ---- the whole

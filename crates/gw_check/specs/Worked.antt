@@ -7,6 +7,7 @@ use Rattle.gw_profile.specs.declared.shape.Count.{Count}
 use Rattle.gw_profile.specs.declared.shape.Count.TheVariants.{Octets, Characters}
 use Rattle.gw_profile.specs.Shapes.{FieldValue, Forest, nothing, segment, group, ProfileValue}
 use Rattle.gw_profile.specs.Value.{leaf_comp}
+use Rattle.gw_maplang.specs.Identity.{walk_all}
 use Rattle.gw_maplang.specs.declared.rule.LeafPlace.{LeafPlace}
 use Rattle.gw_maplang.specs.Shapes as raw
 use Rattle.gw_maplang.specs.Shapes.{MapValue, Row}
@@ -78,7 +79,7 @@ abbrev copies : ℕ → List ℕ → ℕ → raw.RuleValue
 copies line label number = record { line = line; field = number; making = raw.Copies (from label number) }
 
 abbrev item : ℕ → List ℕ → List ℕ → List raw.RuleValue → raw.Items → raw.Items
-item line label source rules rest = raw.segment (record { line = line; label = label; source = Some (source ∷ []); rules = rules }) rest
+item line label source rules rest = raw.segment (record { line = line; label = label; source = Some (walk_all source); rules = rules }) rest
 
 abbrev dropped : ℕ → ℕ → raw.DropValue
 dropped line number = record { line = line; path = codes "PID" ∷ []; field = Some number }
@@ -95,7 +96,7 @@ sex_map behind rows other =
       items =
           item (behind + 1) (codes "MSH") (codes "MSH") (copies (behind + 2) (codes "MSH") 10 ∷ [])
           (item (behind + 3) (codes "PID") (codes "PID")
-          (record { line = behind + 4; field = 8; making = raw.Builds (record { line = behind + 4; place = leaf_place; leaf = raw.Lookup (codes "SEXMAP") (raw.Field (from (codes "PID") 8) leaf_place) } ∷ []) } ∷ [])
+          (record { line = behind + 4; field = 8; making = raw.Builds (record { line = behind + 4; place = leaf_place; leaf = raw.Lookup (codes "SEXMAP") (raw.Field (from (codes "PID") 8) leaf_place); others = [] } ∷ []) } ∷ [])
           raw.nothing);
       drops = dropped (behind + 5) 3 ∷ dropped (behind + 6) 5 ∷ [];
     }
@@ -147,7 +148,7 @@ abbrev pub two_orders : ProfileValue
 two_orders = orders (card 1 2)
 
 abbrev flat : ℕ → List ℕ → raw.Items → raw.Items → raw.Items
-flat line label items rest = raw.flat (record { line = line; path = label ∷ [] }) items rest
+flat line label items rest = raw.flat (record { line = line; walk = walk_all label }) items rest
 
 abbrev pub m3 : MapValue
 m3 =

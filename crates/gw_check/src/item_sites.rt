@@ -3,14 +3,15 @@ ghost use Rattle.std.specs.Prelude.{◌≡◌, ◌++◌, ◌∷◌, [], ℕ, Lis
 ghost use Rattle.gw_maplang.specs.Shapes.{TableValue};
 ghost use Rattle.gw_resolve.specs.Positions.{positions};
 ghost use Rattle.gw_resolve.specs.Resolved.{no_items, first_child as spec_first_child};
-ghost use Rattle.gw_resolve.specs.Seen.{place as seen_place, with_item, all_items};
+ghost use Rattle.gw_resolve.specs.Seen.{place as seen_place, some_condition, with_item, all_items};
 ghost use Rattle.gw_check.specs.Seen.{AddsAll, all_sites, some_site, segment_item as seen_segment};
 ghost use Rattle.gw_check.specs.Sites as spec;
 
+use crate::origins::path_at;
 use crate::segments::{Target, add_read, add_rules, add_site};
 use crate::site::{Origin, Site};
 use gw_maplang::LeafPlace;
-use gw_resolve::{Item, ScopePath, SegmentItem, first_child, positions_within};
+use gw_resolve::{FieldCondition, Item, ScopePath, SegmentItem, first_child, positions_within};
 use std::alloc::{AllocError, Global};
 
 // The node of this number below a position.
@@ -54,6 +55,32 @@ fn add_node(
     add_read(alloc, sites, scope, line, node, place, 0)
 }
 
+// What a condition reads, within what is walked.
+fn add_condition(
+    alloc: Global,
+    sites: &mut Vec<Site>,
+    scope: &[Vec<usize>],
+    line: u32,
+    at: &[usize],
+    condition: &Option<FieldCondition>,
+) -> Result<(), AllocError>
+    ensures { AddsAll result sites.old.items sites.new.items
+        (λ tables. spec.condition_sites (positions scope.now) line at.now (some_condition condition.now)) }
+{
+    let Some(asked) = condition else {
+        return Ok(());
+    };
+    let from = &asked.from;
+    let from = path_at(alloc, scope, &from.place, from.field, asked.condition.place)?;
+    let node = Target {
+        at,
+        field: 0,
+        part: LeafPlace { comp: 0, sub: 0 },
+    };
+    add_site(alloc, sites, line, node, Origin::Read(from))?;
+    Ok(())
+}
+
 // A segment at this position.
 fn add_segment(
     alloc: Global,
@@ -72,12 +99,14 @@ fn add_segment(
                 part: LeafPlace { comp: 0, sub: 0 },
             };
             add_site(alloc, sites, segment.line, node, Origin::Unsaid)?;
+            add_condition(alloc, sites, scope, segment.line, at, &segment.condition)?;
             add_rules(alloc, sites, scope, at, &segment.rules)?;
             Ok(())
         }
         Some(place) => {
             add_node(alloc, sites, scope, segment.line, at, place)?;
             let within = positions_within(alloc, scope, place)?;
+            add_condition(alloc, sites, &within, segment.line, at, &segment.condition)?;
             add_rules(alloc, sites, &within, at, &segment.rules)?;
             Ok(())
         }
@@ -105,6 +134,7 @@ fn add_item(
             let at = below(alloc, above, group.child)?;
             add_node(alloc, sites, scope, group.line, &at, &group.place)?;
             let within = positions_within(alloc, scope, &group.place)?;
+            add_condition(alloc, sites, &within, group.line, &at, &group.condition)?;
             add_items(alloc, sites, &within, &at, &group.items)?;
             Ok(())
         }
@@ -112,6 +142,7 @@ fn add_item(
             let at = made_below(alloc, above, &flat.items)?;
             add_node(alloc, sites, scope, flat.line, &at, &flat.place)?;
             let within = positions_within(alloc, scope, &flat.place)?;
+            add_condition(alloc, sites, &within, flat.line, &at, &flat.condition)?;
             add_items(alloc, sites, &within, above, &flat.items)?;
             Ok(())
         }

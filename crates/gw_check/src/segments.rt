@@ -1,14 +1,14 @@
 //! What the rules of a target segment make.
 ghost use Rattle.std.specs.Prelude.{map, flat_map};
 ghost use Rattle.gw_resolve.specs.Positions.{positions};
-ghost use Rattle.gw_resolve.specs.Seen.{at_leaf, place as seen_place, rule as seen_rule};
-ghost use Rattle.gw_check.specs.Seen.{AddsAll, made, origin as seen_origin, some_reference};
+ghost use Rattle.gw_resolve.specs.Seen.{alternative, at_leaf, place as seen_place, rule as seen_rule};
+ghost use Rattle.gw_check.specs.Seen.{AddsAll, made, other_made, origin as seen_origin, some_reference};
 ghost use Rattle.gw_check.specs.Sites as spec;
 
 use crate::origins::{leaf_origin, path_at};
 use crate::site::{ElementPath, Origin, Site};
 use gw_maplang::LeafPlace;
-use gw_resolve::{At, Making, Reference, Rule, ScopePath};
+use gw_resolve::{Alternative, At, Making, Reference, Rule, ScopePath};
 use std::alloc::{AllocError, Global};
 
 /// An element of the target: a node at a position, a field of it, or a part of that; 0 where the whole is meant.
@@ -63,6 +63,39 @@ pub(crate) fn add_read(
     Ok(())
 }
 
+fn add_other(
+    alloc: Global,
+    sites: &mut Vec<Site>,
+    scope: &[Vec<usize>],
+    walked: Option<&Reference>,
+    place: Target<'_>,
+    other: &Alternative,
+) -> Result<(), AllocError>
+    ensures { AddsAll result sites.old.items sites.new.items
+        (λ tables. other_made (positions scope.now) (some_reference walked.entry) place.entry (alternative tables other.now)) }
+{
+    let origin = leaf_origin(alloc, scope, walked, &other.leaf)?;
+    add_site(alloc, sites, other.line, place, origin)?;
+    Ok(())
+}
+
+fn add_others(
+    alloc: Global,
+    sites: &mut Vec<Site>,
+    scope: &[Vec<usize>],
+    walked: Option<&Reference>,
+    place: Target<'_>,
+    others: &[Alternative],
+) -> Result<(), AllocError>
+    ensures { AddsAll result sites.old.items sites.new.items
+        (λ tables. flat_map (other_made (positions scope.now) (some_reference walked.entry) place.entry) (map (alternative tables) others.now)) }
+{
+    for other in others {
+        add_other(alloc, sites, scope, walked, place, other)?;
+    }
+    Ok(())
+}
+
 fn add_leaf(
     alloc: Global,
     sites: &mut Vec<Site>,
@@ -74,13 +107,13 @@ fn add_leaf(
     ensures { AddsAll result sites.old.items sites.new.items
         (λ tables. spec.leaf_sites (positions scope.now) (some_reference walked.entry) target.entry.at.now target.entry.field (at_leaf tables leaf.now)) }
 {
-    let origin = leaf_origin(alloc, scope, walked, &leaf.leaf)?;
-    let part = Target {
+    let place = Target {
         part: leaf.place,
         ..target
     };
-    add_site(alloc, sites, leaf.line, part, origin)?;
-    Ok(())
+    let origin = leaf_origin(alloc, scope, walked, &leaf.leaf)?;
+    add_site(alloc, sites, leaf.line, place, origin)?;
+    add_others(alloc, sites, scope, walked, place, &leaf.others)
 }
 
 fn add_leaves(

@@ -1,28 +1,44 @@
 -- A part for each of the occurrences where steps lead, and for each at a place.
-use Rattle.std.proofs.Common.{◌≡◌, ℕ, ◌+◌, ◌≤◌, ◌<◌, List, [], ◌∷◌, ◌++◌, Some, refl, sym, ap, ◌∙◌, arith, length, drop, subst, append-nil}
-use Rattle.std.specs.Prelude.{flat_map}
+use Rattle.std.proofs.Common.{◌≡◌, ℕ, ◌+◌, ◌≤◌, ◌<◌, Bool, true, false, List, [], ◌∷◌, ◌++◌, Option, Some, refl, sym, ap, ◌∙◌, arith, length, drop, subst, append-nil}
+use Rattle.std.specs.Prelude.{flat_map, option_map}
+use Rattle.std.specs.List.{AllByRecursion}
 use Rattle.std.proofs.lemmas.List.{drop_all}
 use Rattle.gw_er7.specs.Message.{SegmentValue}
 use Rattle.gw_er7.specs.Building.{IsBegun}
 use Rattle.gw_validate.specs.Fitting.{OccValue, IsLent}
 use Rattle.gw_validate.specs.Viewing.{width, count_at, occurrence_at, occurrence_of}
+use Rattle.gw_profile.specs.declared.node.Node.{Node}
 use Rattle.gw_maplang.specs.Shapes.{TableValue}
+use Rattle.gw_resolve.specs.declared.resolved.FieldCondition as conditions
+use Rattle.gw_resolve.specs.declared.resolved.ScopePath.{ScopePath}
+use Rattle.gw_resolve.specs.declared.resolved.SegmentItem.{SegmentItem}
+use Rattle.gw_resolve.specs.Seen.{place, some_condition}
 use Rattle.gw_interp.specs.declared.items.Part.{Part}
 use Rattle.gw_interp.specs.declared.items.Part.TheVariants.{OneSegment, Level}
 use Rattle.gw_interp.specs.Occurrences.{Occurrence, level_at, children, below}
-use Rattle.gw_interp.specs.own.Borrowed.{occurrence, scope}
+use Rattle.gw_interp.specs.Meaning.{walked, chosen, IsOne, IsImage, ForEach, Segments}
+use Rattle.gw_interp.specs.own.Borrowed.{occurrence, scope, AreOf}
 use Rattle.gw_interp.specs.own.Filling.{message_of}
-use Rattle.gw_interp.specs.own.Ready.{MayBegin, Adds}
-use Rattle.gw_interp.specs.own.Parts.{part_names, PartGives, names_within, MayWithin, GivesWithin, each_names, MayEach, EachGives}
+use Rattle.gw_interp.specs.own.Ready.{MayImage, MaySegments, names_if, MayBegin, Adds}
+use Rattle.gw_interp.specs.own.Sourced.{is_met}
+use Rattle.gw_interp.specs.own.Parts.{found_at, node_name, segments_names, rules_of, MaySegmentsOf, SegmentsOf, condition_of, names_so, MaySo, GivesSo, part_names, MayPart, PartGives, chosen_names, MayChosen, ChosenGives, names_within, MayWithin, GivesWithin, each_names, MayEach, EachGives}
 use Rattle.gw_interp.proofs.Borrowing.{drop_level, level_children, length_level}
 use Rattle.gw_interp.proofs.Naming.{given_names}
 use Rattle.gw_interp.proofs.Trees.{all_left}
+use Rattle.gw_interp.proofs.Within.{one_name, names_chosen, may_chosen, each_chosen}
 use Rattle.gw_interp.proofs.Giving.{names_of, each_one, IsWalkDone, none_walked, next_begins, next_walked, all_walked}
 use Rattle.gw_interp.proofs.Levels.{adds_as}
 
-pub part_named : (tables : List TableValue) (part : Part) (m : List SegmentValue) (os : List Occurrence) (list : List SegmentValue) → PartGives tables part m os list → names_of list ≡ part_names tables part os
+pub part_named : (tables : List TableValue) (part : Part) (m : List SegmentValue) (os : List Occurrence) (list : List SegmentValue) → PartGives tables part m os list → names_of list ≡ part_names tables part m os
 part_named tables (OneSegment nodes item) m os list one = ap names_of one.list_is ∙ ap (λ n. n ∷ []) one.holds.named
-part_named tables (Level nodes items) m os list h = given_names m os _ _ list h
+part_named tables (Level nodes items condition) m os list h = given_names m os _ _ list h
+
+pub chosen_named : (tables : List TableValue) (part : Part) (m : List SegmentValue) (os : List Occurrence) (list : List SegmentValue) → ChosenGives tables part m os list → names_of list ≡ chosen_names tables part m os
+chosen_named tables part m os list = by (is_met m os (condition_of part))
+  where
+    by : (b : Bool) → GivesSo b (PartGives tables part m os) list → names_of list ≡ names_so b (part_names tables part m os)
+    by true h = part_named tables part m os list h
+    by false h = ap names_of h
 
 module _ (tables : List TableValue) (part : Part) (os : List OccValue) where
   abbrev Gives : Occurrence → List SegmentValue → Type 0
@@ -73,7 +89,7 @@ module _ (tables : List TableValue) (part : Part) (os : List OccValue) where
     child_done new walked_new same a lawful =
         record {
           kept = same ∙ d.kept;
-          walk = next_walked Gives May names (λ p list. part_named tables part (message_of os) (p ∷ scope os) list) (flat_map (below later) (children (occurrence from) child)) (below later (occurrence o)) (left from child later (k + 1)) old now new walk
+          walk = next_walked Gives May names (λ p list. chosen_named tables part (message_of os) (p ∷ scope os) list) (flat_map (below later) (children (occurrence from) child)) (below later (occurrence o)) (left from child later (k + 1)) old now new walk
               (subst (λ w. Adds (EachGives tables part w (below later (occurrence o))) now new) d.kept a) lawful;
         }
 
@@ -96,3 +112,52 @@ pub here_given : (tables : List TableValue) (part : Part) (os : List OccValue) (
 here_given tables part os from steps old new h a =
     subst (λ l. Adds (EachGives tables part os (below l (occurrence from))) old new) (sym (no_step steps h))
     (adds_as _ _ old new (each_one (GivesWithin tables part os) (occurrence from)) a)
+
+-- ---- a part, where its condition holds
+
+-- whether it does
+pub held : (so : Bool) (part : Part) (condition : Option conditions.FieldCondition) (os lent : List OccValue) → lent ≡ os → some_condition condition ≡ condition_of part → AreOf (message_of os) os →
+    ((m : List SegmentValue) → AreOf m lent → so ≡ is_met m (scope lent) (some_condition condition)) → is_met (message_of os) (scope os) (condition_of part) ≡ so
+held so part condition os lent same is of h =
+    sym (h (message_of os) (subst (AreOf (message_of os)) (sym same) of) ∙ (λ i. is_met (message_of os) (scope (same i)) (is i)))
+
+module _ (tables : List TableValue) (part : Part) (m : List SegmentValue) (os : List Occurrence) where
+  pub none_so : (old : List SegmentValue) → is_met m os (condition_of part) ≡ false → Adds (ChosenGives tables part m os) old old
+  none_so old e = record { list = []; joined = sym (append-nil old); holds = subst (λ b. GivesSo b (PartGives tables part m os) []) (sym e) refl }
+
+  pub so_begins : (old : List SegmentValue) → is_met m os (condition_of part) ≡ true → MayBegin old (chosen_names tables part m os) → MayBegin old (part_names tables part m os)
+  so_begins old e = subst (λ b. MayBegin old (names_so b (part_names tables part m os)) → MayBegin old (part_names tables part m os)) (sym e) (λ h. h)
+
+  pub so_may : is_met m os (condition_of part) ≡ true → MayChosen tables part m os → MayPart tables part m os
+  so_may e = subst (λ b. MaySo b (MayPart tables part m os) → MayPart tables part m os) (sym e) (λ h. h)
+
+  pub so_adds : (old new : List SegmentValue) → is_met m os (condition_of part) ≡ true → Adds (PartGives tables part m os) old new → Adds (ChosenGives tables part m os) old new
+  so_adds old new e = adds_as _ _ old new (λ list h. subst (λ b. GivesSo b (PartGives tables part m os) list) (sym e) h)
+
+-- ---- the segments of an item that walks a place
+
+module _ (tables : List TableValue) (nodes : List Node) (item : SegmentItem) (os : List OccValue) (p : ScopePath) (is : item.place ≡ Some p) where
+  abbrev Image : Occurrence → Type 0
+  Image o = MayImage (walked (message_of os) (o ∷ scope os)) (node_name nodes item) (rules_of tables item)
+
+  abbrev One : Occurrence → List SegmentValue → Type 0
+  One o = IsOne (IsImage (walked (message_of os) (o ∷ scope os)) (node_name nodes item) (rules_of tables item))
+
+  pub segments_begin : (old : List SegmentValue) → MayBegin old (segments_names nodes item os) →
+      MayBegin old (flat_map (λ o. names_so (is_met (message_of os) (o ∷ scope os) (some_condition item.condition)) (node_name nodes item ∷ [])) (found_at os p))
+  segments_begin old =
+      subst (MayBegin old)
+      (ap (λ q. names_if (message_of os) (scope os) (node_name nodes item) (some_condition item.condition) (option_map place q)) is
+      ∙ one_name (node_name nodes item) (chosen (message_of os) (scope os) (some_condition item.condition) (found_at os p))
+      ∙ names_chosen (message_of os) (scope os) (some_condition item.condition) (λ o. node_name nodes item ∷ []) (found_at os p))
+
+  pub segments_may : MaySegmentsOf tables nodes item os → AllByRecursion (λ o. MaySo (is_met (message_of os) (o ∷ scope os) (some_condition item.condition)) (Image o)) (found_at os p)
+  segments_may h =
+      may_chosen (message_of os) (scope os) (some_condition item.condition) Image (found_at os p)
+      (subst (λ q. MaySegments (message_of os) (scope os) (node_name nodes item) (rules_of tables item) (some_condition item.condition) (option_map place q)) is h)
+
+  pub segments_given : (old new : List SegmentValue) → Adds (ForEach (λ o. GivesSo (is_met (message_of os) (o ∷ scope os) (some_condition item.condition)) (One o)) (found_at os p)) old new → Adds (SegmentsOf tables nodes item os) old new
+  segments_given old new =
+      adds_as _ _ old new (λ list h.
+      subst (λ q. Segments (message_of os) (scope os) (node_name nodes item) (rules_of tables item) (some_condition item.condition) (option_map place q) list) (sym is)
+      (each_chosen (message_of os) (scope os) (some_condition item.condition) One (found_at os p) list h))

@@ -6,12 +6,12 @@ use Rattle.std.proofs.lemmas.Bool.Decides.{eqb_tells, Decides-eqb}
 use Rattle.gw_er7.specs.Names.{IsName}
 use Rattle.gw_er7.specs.Message.{Texts, text_of, SegmentValue, first_field, IsEntry, IsSegment}
 use Rattle.gw_er7.specs.Presence.{RepAt}
-use Rattle.gw_resolve.specs.Resolved.{Source, of_field, of_current, Leaf, const, copied, looked_up, dated, At, leaf_at, Making, copy, first, repeat, build, Rule, rule_of}
+use Rattle.gw_resolve.specs.Resolved.{Source, of_field, of_current, Leaf, const, copied, looked_up, dated, Alternative, At, alternatives, leaf_at, Making, copy, first, repeat, build, Rule, rule_of}
 use Rattle.gw_maplang.specs.Among.{Among}
 use Rattle.gw_maplang.specs.Shapes.{Rows, Condition}
 use Rattle.gw_interp.specs.Occurrences.{texts_at}
-use Rattle.gw_interp.specs.Meaning.{IsNth, InFirstOf, IsChosen, InNth, Walked, SourceMeans, look_up, first_digits, LeafMeans, AtMeans, Where, walking, MakingMeans, RuleMeans, IsImage}
-use Rattle.gw_interp.specs.own.Sourced.{IsFault}
+use Rattle.gw_interp.specs.Meaning.{IsNth, InFirstOf, IsChosen, InNth, Walked, SourceMeans, look_up, first_digits, LeafMeans, FirstText, AtMeans, Where, walking, MakingMeans, RuleMeans, IsImage}
+use Rattle.gw_interp.specs.own.Sourced.{IsFault, NoFaultOf}
 use Rattle.gw_interp.specs.own.Ready.{NoFaults, NoFaultIn, MayImage}
 use Rattle.gw_interp.proofs.Lists.{found_test, found_all}
 use Rattle.gw_interp.proofs.Shaped.{text_there}
@@ -49,12 +49,20 @@ leaf_text w (copied source) sound = source_text w source
 leaf_text w (dated digits source) sound = let from = source_text w source in (first_digits digits from.0, (from.0, from.1, refl))
 leaf_text w (looked_up table source) sound = let from = source_text w source in looked_text w table source sound from.0 from.1
 
+given_text : (w : Walked) (all : List Alternative) → NoFaultOf w all → Exists (FirstText w all)
+given_text w [] sound = ([], refl)
+given_text w (o ∷ os) sound = let text = leaf_text w o.leaf sound.0 in by text.0 text.1 (given_text w os sound.1)
+  where
+    by : (text : List ℕ) → LeafMeans w o.leaf text → Exists (FirstText w os) → Exists (FirstText w (o ∷ os))
+    by [] means later = (later.0, inr (means, later.1))
+    by (b ∷ text) means later = (b ∷ text, inl (means, omega arith))
+
 at_text : (w : Walked) (leaves : List At) → NoFaults w leaves → (comp sub : ℕ) → Exists (AtMeans w (leaf_at leaves comp sub))
 at_text w leaves sound comp sub = by (leaf_at leaves comp sub) refl
   where
     by : (o : Option At) → leaf_at leaves comp sub ≡ o → Exists (AtMeans w o)
     by None e = ([], refl)
-    by (Some a) e = leaf_text w a.leaf (found_all (λ (b : At). b.comp == comp && b.sub == sub) (λ (b : At). IsFault w b.leaf → ⊥) leaves a e sound)
+    by (Some a) e = given_text w (alternatives a) (found_all (λ (b : At). b.comp == comp && b.sub == sub) (λ (b : At). NoFaultOf w (alternatives b)) leaves a e sound)
 
 where_text : (here : Type 0) (means : List ℕ → Type 0) → Decided here → (here → Exists means) → Exists (Where here means)
 where_text here means (inl h) some = let text = some h in (text.0, inl (h, text.1))

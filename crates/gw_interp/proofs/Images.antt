@@ -20,10 +20,10 @@ use Rattle.gw_validate.specs.Breaches.{is_null}
 use Rattle.gw_validate.specs.Conforming.{segment_at}
 use Rattle.gw_validate.proofs.Nexts.{some_counted}
 use Rattle.gw_resolve.specs.Places.{Place}
-use Rattle.gw_resolve.specs.Resolved.{Source, of_field, of_current, Leaf, const, copied, looked_up, dated, At, leaf_at, Making, copy, first, repeat, build, Rule, rule_of}
+use Rattle.gw_resolve.specs.Resolved.{Source, of_field, of_current, Leaf, const, copied, looked_up, dated, Alternative, At, alternatives, leaf_at, Making, copy, first, repeat, build, Rule, rule_of}
 use Rattle.gw_resolve.specs.Lawful.{LawfulSource, LawfulLeaf, LawfulAt, LawfulLeaves, LawfulMaking, LawfulRule, LawfulRules}
 use Rattle.gw_interp.specs.Occurrences.{Occurrence, a_segment, nodes, at_place, texts_of_first, texts_at}
-use Rattle.gw_interp.specs.Meaning.{InFirst, InFirstOf, IsChosen, InNth, Walked, walking, SourceMeans, first_digits, LeafMeans, AtMeans, Where, MakingMeans, RuleMeans, IsImage}
+use Rattle.gw_interp.specs.Meaning.{InFirst, InFirstOf, IsChosen, InNth, Walked, walking, SourceMeans, first_digits, LeafMeans, FirstText, AtMeans, Where, MakingMeans, RuleMeans, IsImage}
 use Rattle.gw_interp.proofs.Lists.{found_test, found_all}
 use Rattle.gw_interp.proofs.Shaped.{text_there}
 use Rattle.gw_interp.proofs.Leaves.{given_value, LooksUp, of_none, of_null, of_value, looks_up}
@@ -130,7 +130,7 @@ module _ (w : Walked) (places : (place : Place) → AreEntries 1 (texts_at w.mes
     source_canonical (of_current comp sub) lawful text means = subst IsCanonical (sym means) (current lawful comp sub)
 
     -- the text of a leaf is canonical
-    pub leaf_canonical : (leaf : Leaf) → LawfulLeaf repeated leaf → (text : List ℕ) → LeafMeans w leaf text → IsCanonical text
+    leaf_canonical : (leaf : Leaf) → LawfulLeaf repeated leaf → (text : List ℕ) → LeafMeans w leaf text → IsCanonical text
     leaf_canonical (const value) lawful text means = subst IsCanonical (sym means) (value_canonical value lawful)
     leaf_canonical (copied source) lawful text means = source_canonical source lawful text means
     leaf_canonical (dated digits source) lawful text means = subst IsCanonical (sym means.2) (date_canonical digits means.0 (source_canonical source lawful means.0 means.1))
@@ -140,6 +140,12 @@ module _ (w : Walked) (places : (place : Place) → AreEntries 1 (texts_at w.mes
         by (of_none a b) = subst IsCanonical (sym b) none_canonical
         by (of_null a b) = subst IsCanonical (sym b) (source_canonical source lawful.1 means.0 means.1)
         by (of_value a b c) = value_canonical text (given_value table means.0 text lawful.0 c)
+
+    -- and so is the first of several
+    pub given_canonical : (all : List Alternative) → AllByRecursion (λ (o : Alternative). LawfulLeaf repeated o.leaf) all → (text : List ℕ) → FirstText w all text → IsCanonical text
+    given_canonical [] lawful text means = subst IsCanonical (sym means) none_canonical
+    given_canonical (o ∷ os) lawful text (inl h) = leaf_canonical o.leaf lawful.0 text h.0
+    given_canonical (o ∷ os) lawful text (inr h) = given_canonical os lawful.1 text h.1
 
 -- ---- rules
 
@@ -161,7 +167,7 @@ leaf_placed w places repeated current leaves lawful r c k rep text means lt = by
           rep = rep;
           comp = omega (arith, is.comp, comp_is leaves c k a e);
           sub = omega (arith, is.sub, sub_is leaves c k a e);
-          canonical = leaf_canonical w places repeated current a.leaf is.leaf text h;
+          canonical = given_canonical w places repeated current (alternatives a) is.each text h;
         }
 
 module _ (w : Walked) (places : (place : Place) → AreEntries 1 (texts_at w.message w.scope place)) where

@@ -14,17 +14,18 @@ use Rattle.gw_profile.proofs.Facts.{both, neither, both_false, no_clash, le_is, 
 use Rattle.gw_validate.specs.Breaches.{is_null}
 use Rattle.gw_maplang.specs.Shapes.{Row, Rows, second_of}
 use Rattle.gw_maplang.specs.Lawful.{LawfulRow}
+use Rattle.gw_resolve.specs.Failures.{Mark}
 use Rattle.gw_resolve.specs.Places.{known}
-use Rattle.gw_resolve.specs.Resolved.{Reference, Source, Leaf, const, copied, looked_up, dated, At, Making, copy, first, repeat, build, Rule}
+use Rattle.gw_resolve.specs.Resolved.{Reference, Source, Leaf, const, copied, looked_up, dated, Alternative, At, alternatives, Making, copy, first, repeat, build, Rule}
 use Rattle.gw_leaves.specs.declared.shape.Presence.{Presence}
 use Rattle.gw_leaves.specs.declared.shape.Presence.TheVariants.{Always, Maybe, Never}
 use Rattle.gw_leaves.specs.Leaves.{Values, any, listed, IsOf, Sources, at_field, or_otherwise, given, given_values, has_no_row, source_shape, is_always, is_absent, perhaps, leaf_shape}
 use Rattle.gw_leaves.specs.Counts as counts
-use Rattle.gw_leaves.specs.Components.{lookup_failures, rule_lookups}
+use Rattle.gw_leaves.specs.Components.{line_in, leaf_mark, leaf_lookups, other_lookups, lookup_failures, rule_lookups}
 use Rattle.gw_resolve.specs.Lawful.{LawfulRows, LawfulLeaf}
 use Rattle.gw_interp.specs.Occurrences.{texts_at}
 use Rattle.gw_interp.specs.Meaning.{Walked, SourceMeans, LeafMeans, look_up, first_digits, walking}
-use Rattle.gw_interp.specs.own.Sourced.{IsFault}
+use Rattle.gw_interp.specs.own.Sourced.{IsFault, NoFaultOf}
 use Rattle.gw_interp.specs.own.Ready.{NoFaultIn}
 use Rattle.gw_interp.proofs.Chosen.{chosen_there}
 use Rattle.gw_interp.proofs.Walks.{IsCurrent, IsWalked}
@@ -244,14 +245,14 @@ look_found table v (b ∷ bytes) rowed is = by (is_null (b ∷ bytes)) refl
     by false f = let found = found_by table v (b ∷ bytes) rowed (is (λ e. cc) f) in (found.0, ap (λ n. if n then Some (b ∷ bytes) else given table (b ∷ bytes)) f ∙ found.1)
 
 module _ (names : List (List ℕ)) (s : Sources) (w : Walked) (has : HasTables names s.profile.tables) (is : IsWalked names s w) where
-  pub no_fault : (field : ℕ) (a : At) → lookup_failures s field a ≡ [] → IsFault w a.leaf → ⊥
-  no_fault field a none = by a.leaf none
+  leaf_no_fault : (mark : Mark) (leaf : Leaf) → leaf_lookups s mark leaf ≡ [] → IsFault w leaf → ⊥
+  leaf_no_fault mark leaf none = by leaf none
     where
-      rowed : (table : Rows) (source : Source) (o : Option (List ℕ)) → lookup_failures s field (record a { leaf = looked_up (record { rows = table.rows; other = o }) source }) ≡ [] → o ≡ None → has_no_row table (source_shape s source).values ≡ false
+      rowed : (table : Rows) (source : Source) (o : Option (List ℕ)) → leaf_lookups s mark (looked_up (record { rows = table.rows; other = o }) source) ≡ [] → o ≡ None → has_no_row table (source_shape s source).values ≡ false
       rowed table source None none e = none_fails 10 _ (has_no_row table (source_shape s source).values) none
       rowed table source (Some value) none e = absurd (cc)
 
-      by : (leaf : Leaf) → lookup_failures s field (record a { leaf = leaf }) ≡ [] → IsFault w leaf → ⊥
+      by : (leaf : Leaf) → leaf_lookups s mark leaf ≡ [] → IsFault w leaf → ⊥
       by (const value) none fault = absurd fault
       by (copied source) none fault = absurd fault
       by (dated digits source) none fault = absurd fault
@@ -259,6 +260,11 @@ module _ (names : List (List ℕ)) (s : Sources) (w : Walked) (has : HasTables n
           let shaped = source_shaped names s w has is source fault.0 fault.1 in
           let found = look_found table (source_shape s source).values fault.0 (rowed table source table.other none) shaped.values in
           absurd (let clash = sym found.1 ∙ fault.2 in cc)
+
+  pub no_fault : (field : ℕ) (a : At) → lookup_failures s field a ≡ [] → NoFaultOf w (alternatives a)
+  no_fault field a none =
+      all_as (λ (o : Alternative). other_lookups s (leaf_mark field a) o ≡ []) (λ (o : Alternative). IsFault w o.leaf → ⊥)
+      (λ o e. leaf_no_fault (line_in (leaf_mark field a) o.line) o.leaf e) (alternatives a) (each_empty (other_lookups s (leaf_mark field a)) (alternatives a) none)
 
 module _ (names : List (List ℕ)) (s : Sources) (w : Walked) (has : HasTables names s.profile.tables) (is : IsWalked names s w) where
   -- where each lookup has its rows, no leaf of the rule is a fault
@@ -269,8 +275,8 @@ module _ (names : List (List ℕ)) (s : Sources) (w : Walked) (has : HasTables n
       by (copy from) none = tt
       by (first from chosen) none = tt
       by (repeat from chosen leaves) none = λ rep is_chosen.
-          all_as (λ (a : At). lookup_failures (counts.walking s from) r.field a ≡ []) (λ (a : At). IsFault (walking w from rep) a.leaf → ⊥)
+          all_as (λ (a : At). lookup_failures (counts.walking s from) r.field a ≡ []) (λ (a : At). NoFaultOf (walking w from rep) (alternatives a))
           (λ a e. no_fault names (counts.walking s from) (walking w from rep) has (walked_on names s w has is from rep (chosen_there chosen (texts_at w.message w.scope from.place) from.field rep is_chosen)) r.field a e) leaves (each_empty (lookup_failures (counts.walking s from) r.field) leaves none)
       by (build leaves) none =
-          all_as (λ (a : At). lookup_failures s r.field a ≡ []) (λ (a : At). IsFault w a.leaf → ⊥)
+          all_as (λ (a : At). lookup_failures s r.field a ≡ []) (λ (a : At). NoFaultOf w (alternatives a))
           (λ a e. no_fault names s w has is r.field a e) leaves (each_empty (lookup_failures s r.field) leaves none)

@@ -9,9 +9,10 @@ use Rattle.gw_profile.specs.Shapes.{FieldValue, GroupValue, Forest, ProfileValue
 use Rattle.gw_profile.specs.WellFormed.{Rising, field_numbers, LawfulField, LawfulSegment, LawfulGroup, EachSegment, EachGroup}
 use Rattle.gw_profile.specs.Fault.{least_field}
 use Rattle.gw_validate.specs.Conforming.{One, Seq}
-use Rattle.gw_resolve.specs.Intervals.{never, product}
+use Rattle.gw_resolve.specs.Intervals.{never, once, product}
 use Rattle.gw_resolve.specs.Places.{Element, a_segment, a_group, the_whole, Place, Found, times, child_found, found_below, found_in, found, child, nodes_of, nodes_of_child, fields_of, name_of, count_of, count_at, count_if, element_of, within, within_if}
-use Rattle.gw_resolve.specs.Resolved.{Rule, Items, no_items, segment_item, group_item, flat_item}
+use Rattle.gw_resolve.specs.Resolved.{FieldCondition, Rule, Items, no_items, segment_item, group_item, flat_item}
+use Rattle.gw_leaves.specs.Counts.{chosen_count}
 use Rattle.gw_check.specs.Counts.{items_count}
 use Rattle.gw_resolve.specs.Failures.{Mark, fails}
 use Rattle.gw_check.specs.Fields.{segment_failures}
@@ -19,10 +20,11 @@ use Rattle.gw_check.specs.Levels.{sources, level_failures, items_failures}
 use Rattle.gw_resolve.specs.Order.{is_segment, is_group, all_for, are_placed}
 use Rattle.gw_resolve.specs.Lawful.{LawfulRules, LawfulItems}
 use Rattle.gw_interp.specs.Occurrences.{Occurrence, at_place}
-use Rattle.gw_interp.specs.Meaning.{Walked, IsOne, walked, SegmentsBy, GiveBy}
+use Rattle.gw_interp.specs.Meaning.{Walked, IsOne, walked, chosen, SegmentsBy, GiveBy}
 use Rattle.gw_interp.proofs.Walks.{IsOccurrence, InScope}
 use Rattle.gw_interp.proofs.Paths.{Several, Finds, place_finds}
-use Rattle.gw_interp.proofs.Parts.{Given, given_none, given_one, given_sum, for_each, for_each_given}
+use Rattle.gw_interp.proofs.Parts.{Given, given_none, given_one, given_sum, maybe_fewer, for_each, for_each_given}
+use Rattle.gw_interp.proofs.Within.{chosen_several}
 use Rattle.gw_interp.proofs.Splits as splits
 use Rattle.gw_interp.proofs.Splits.{both_true, three_true, four_true, nil_left, nil_right, joined}
 
@@ -172,13 +174,14 @@ module _ (from to : ProfileValue) (from_names names : List (List ℕ)) (m : List
             subst (λ f. Seq (λ x. x.name) meets f list) there (seq (subst (LawfulNodes names) (sym there) (lawful_group nodes k g inner l same)))
 
     -- the segments of one item
-    segments_given : (es : List Element) (os : List Occurrence) (line j : ℕ) (place : Option Place) (nodes : Forest) (rules : List Rule) (list : List SegmentValue) → Scoped from from_names m es os → LawfulNodes names nodes → LawfulRules (name_of (child nodes j)) rules → is_segment (child nodes j) ≡ true → segment_failures (sources from (within_if es place)) to line rules (fields_of (child nodes j)) ≡ [] → SegmentsBy Image m os (name_of (child nodes j)) rules place list → Given (Part (child nodes j)) (count_if es place) list
-    segments_given es os line j None nodes rules list h l r k f o =
-        given_one (Part (child nodes j)) list (one_segment es os line j nodes rules list h l r k f o)
-    segments_given es os line j (Some place) nodes rules list h l r k f o =
+    segments_given : (es : List Element) (os : List Occurrence) (line j : ℕ) (condition : Option FieldCondition) (place : Option Place) (nodes : Forest) (rules : List Rule) (list : List SegmentValue) → Scoped from from_names m es os → LawfulNodes names nodes → LawfulRules (name_of (child nodes j)) rules → is_segment (child nodes j) ≡ true → segment_failures (sources from (within_if es place)) to line rules (fields_of (child nodes j)) ≡ [] → SegmentsBy Image m os (name_of (child nodes j)) rules condition place list → Given (Part (child nodes j)) (chosen_count condition (count_if es place)) list
+    segments_given es os line j condition None nodes rules list h l r k f o =
+        maybe_fewer (Part (child nodes j)) condition once list (given_one (Part (child nodes j)) list (one_segment es os line j nodes rules list h l r k f o))
+    segments_given es os line j condition (Some place) nodes rules list h l r k f o =
         for_each (Part (child nodes j)) from m (element_of (found es place)) _
         (λ x part is one. one_segment (within es place) (x ∷ os) line j nodes rules part (scoped_within from from_names m es os place x h is) l r k f one)
-        (count_at es place) (at_place os place) list (walked_there from from_names m es os place h) o
+        (chosen_count condition (count_at es place)) (chosen m os condition (at_place os place)) list
+        (chosen_several from m (element_of (found es place)) os condition (count_at es place) (at_place os place) (walked_there from from_names m es os place h)) o
 
     -- the items of one node
     pub items_given : (items : Items) → splits.EachGroup LevelSound items → (es : List Element) (os : List Occurrence) (j : ℕ) (nodes : Forest) (list : List SegmentValue) → Scoped from from_names m es os → LawfulNodes names nodes → LawfulItems nodes items → all_for nodes j items ≡ true → items_failures from to es nodes items ≡ [] → GiveBy Image m os nodes items list → Given (Part (child nodes j)) (items_count es items) list
@@ -186,9 +189,9 @@ module _ (from to : ProfileValue) (from_names names : List (List ℕ)) (m : List
     items_given (segment_item s rest) inner es os j nodes list h l li p f g =
         let t = three_true (s.child == j) (is_segment (child nodes j)) (all_for nodes j rest) p in
         let same : s.child ≡ j = from_eq s.child j t.0 in
-        let part = segments_given es os s.line s.child s.place nodes s.rules g.front h l li.0 (subst (λ k. is_segment (child nodes k) ≡ true) (sym same) t.1) (nil_left _ _ f) g.here in
-        given_sum (Part (child nodes j)) (count_if es s.place) (items_count es rest) g.front g.back list g.joined
-        (subst (λ k. Given (Part (child nodes k)) (count_if es s.place) g.front) same part)
+        let part = segments_given es os s.line s.child s.condition s.place nodes s.rules g.front h l li.0 (subst (λ k. is_segment (child nodes k) ≡ true) (sym same) t.1) (nil_left _ _ f) g.here in
+        given_sum (Part (child nodes j)) (chosen_count s.condition (count_if es s.place)) (items_count es rest) g.front g.back list g.joined
+        (subst (λ k. Given (Part (child nodes k)) (chosen_count s.condition (count_if es s.place)) g.front) same part)
         (items_given rest inner es os j nodes g.back h l li.1 t.2 (nil_right _ _ f) g.there)
     items_given (group_item x items rest) inner es os j nodes list h l li p f g =
         let t = four_true (x.child == j) (is_group (child nodes j)) (are_placed (nodes_of_child nodes j) 0 items) (all_for nodes j rest) p in
@@ -198,14 +201,16 @@ module _ (from to : ProfileValue) (from_names names : List (List ℕ)) (m : List
         let part : (o : Occurrence) (list : List SegmentValue) → IsOccurrence from m (element_of (found es x.place)) o → GiveBy Image m (o ∷ os) (nodes_of_child nodes x.child) items list → Part (child nodes x.child) list =
         λ o list is give. one_group (x.child) nodes l (subst (λ k. is_group (child nodes k) ≡ true) (sym same) t.1) list
         (λ lawful. inner.0 (within es x.place) (o ∷ os) x.line (nodes_of_child nodes x.child) list (scoped_within from from_names m es os x.place o h is) lawful li.0 (subst (λ k. are_placed (nodes_of_child nodes k) 0 items ≡ true) (sym same) t.2) level below give) in
-        given_sum (Part (child nodes j)) (count_at es x.place) (items_count es rest) g.front g.back list g.joined
-        (subst (λ k. Given (Part (child nodes k)) (count_at es x.place) g.front) same
-        (for_each (Part (child nodes x.child)) from m (element_of (found es x.place)) _ part (count_at es x.place) (at_place os x.place) g.front (walked_there from from_names m es os x.place h) g.here))
+        given_sum (Part (child nodes j)) (chosen_count x.condition (count_at es x.place)) (items_count es rest) g.front g.back list g.joined
+        (subst (λ k. Given (Part (child nodes k)) (chosen_count x.condition (count_at es x.place)) g.front) same
+        (for_each (Part (child nodes x.child)) from m (element_of (found es x.place)) _ part (chosen_count x.condition (count_at es x.place)) (chosen m os x.condition (at_place os x.place)) g.front
+        (chosen_several from m (element_of (found es x.place)) os x.condition (count_at es x.place) (at_place os x.place) (walked_there from from_names m es os x.place h)) g.here))
         (items_given rest inner.1 es os j nodes g.back h l li.1 t.3 (nil_right _ _ f) g.there)
     items_given (flat_item x items rest) inner es os j nodes list h l li p f g =
         let t = both_true (all_for nodes j items) (all_for nodes j rest) p in
-        given_sum (Part (child nodes j)) (product (count_at es x.place) (items_count (within es x.place) items)) (items_count es rest) g.front g.back list g.joined
+        given_sum (Part (child nodes j)) (product (chosen_count x.condition (count_at es x.place)) (items_count (within es x.place) items)) (items_count es rest) g.front g.back list g.joined
         (for_each_given (Part (child nodes j)) from m (element_of (found es x.place)) _ (items_count (within es x.place) items)
         (λ o part is give. items_given items inner.0 (within es x.place) (o ∷ os) j nodes part (scoped_within from from_names m es os x.place o h is) l li.0 t.0 (nil_left _ _ f) give)
-        (count_at es x.place) (at_place os x.place) g.front (walked_there from from_names m es os x.place h) g.here)
+        (chosen_count x.condition (count_at es x.place)) (chosen m os x.condition (at_place os x.place)) g.front
+        (chosen_several from m (element_of (found es x.place)) os x.condition (count_at es x.place) (at_place os x.place) (walked_there from from_names m es os x.place h)) g.here)
         (items_given rest inner.1 es os j nodes g.back h l li.1 t.1 (nil_right _ _ f) g.there)

@@ -1,5 +1,6 @@
 pub mod Walks
 pub mod Paths
+pub mod Within
 pub mod Parts
 pub mod Splits
 pub mod LevelsSound
@@ -14,6 +15,8 @@ pub mod Shaped
 pub mod Held
 pub mod Sources
 pub mod Leaves
+pub mod Firsts
+pub mod InTurn
 pub mod Repetitions
 pub mod Carried
 pub mod Contents
@@ -46,3 +49,4 @@ mod Eachs
 mod Turns
 mod Translated
 mod Nexts
+mod FirstTexts

@@ -14,19 +14,19 @@ use Rattle.gw_profile.specs.Lengths.{len_count}
 use Rattle.gw_validate.specs.Breaches.{is_required, is_null, SubBreach, InAny, CompBreach, comp_absent, comp_forbidden, in_sub}
 use Rattle.gw_maplang.specs.declared.rule.LeafPlace.{LeafPlace}
 use Rattle.gw_resolve.specs.Intervals.{Interval, never}
-use Rattle.gw_resolve.specs.Resolved.{Leaf, const, copied, looked_up, dated, At, leaf_at}
-use Rattle.gw_leaves.specs.Leaves.{Sources, leaf_shape, is_always, is_absent, may_be_unlisted, may_be_long}
+use Rattle.gw_resolve.specs.Resolved.{At, alternatives, leaf_at}
+use Rattle.gw_leaves.specs.Leaves.{Sources, at_presence, is_always, is_absent}
 use Rattle.gw_profile.specs.Numbered.{comp_of, sub_of}
 use Rattle.gw_leaves.specs.Counts.{some_always, all_absent, leaves_count}
 use Rattle.gw_resolve.specs.Failures.{Mark, fails}
-use Rattle.gw_leaves.specs.Components.{comp_in, leaf_mark, table_values, is_comp_sure, is_sub_sure, made_sub, made_comp, is_forbidden_comp, is_forbidden_sub, leaf_failures, placed, made_leaf, made_field}
+use Rattle.gw_leaves.specs.Components.{comp_in, leaf_mark, is_comp_sure, is_sub_sure, made_sub, made_comp, is_forbidden_comp, is_forbidden_sub, placed, made_leaf, made_field}
 use Rattle.gw_resolve.specs.Lawful.{LawfulAt, LawfulLeaves, place}
-use Rattle.gw_interp.specs.Meaning.{Walked, LeafMeans, AtMeans, Where}
+use Rattle.gw_interp.specs.Meaning.{Walked, FirstText, AtMeans, Where}
 use Rattle.gw_interp.proofs.Walks.{IsWalked}
 use Rattle.gw_interp.proofs.Lists.{all_with, all_pass, some_pass, found_test, found_all, found_each, rising_distinct, none_fails, both_empty, each_empty}
-use Rattle.gw_interp.proofs.Shaped.{IsShaped, IsFit, fit_of, fit_values, some_text, no_text, text_there}
+use Rattle.gw_interp.proofs.Shaped.{IsFit, some_text, no_text, text_there}
 use Rattle.gw_interp.proofs.Held.{HasTables}
-use Rattle.gw_interp.proofs.Leaves.{leaf_shaped}
+use Rattle.gw_interp.proofs.Firsts.{IsFirstShaped, first_shaped, first_fit}
 use Rattle.gw_interp.proofs.Repetitions.{IsCounted, never_counted, counted_within, counted_alike}
 use Rattle.gw_interp.proofs.Contents.{none_broken, demanded, sub_unbroken}
 
@@ -48,12 +48,12 @@ same_place a b e =
 
 -- ---- leaves at their places
 
--- a text that is there is that of a leaf
+-- a text that is there is that of a place
 pub record IsMade (s : Sources) (Here : ℕ → Type 0) (leaves : List At) (m : Texts) (number r c k : ℕ) : Type 0 where
   pub here : Here r
   pub at : At
   pub found : leaf_at leaves c k ≡ Some at
-  pub shaped : IsShaped (leaf_shape s at.leaf) (text_of m number r c k)
+  pub shaped : IsFirstShaped s (alternatives at) (text_of m number r c k)
 
 pub comp_is : (leaves : List At) (c k : ℕ) (a : At) → leaf_at leaves c k ≡ Some a → a.comp ≡ c
 comp_is leaves c k a e = (Decides-eqb a.comp c).0 (facts.both (a.comp == c) (a.sub == k) (found_test (λ (b : At). b.comp == c && b.sub == k) leaves a e)).0
@@ -61,26 +61,9 @@ comp_is leaves c k a e = (Decides-eqb a.comp c).0 (facts.both (a.comp == c) (a.s
 pub sub_is : (leaves : List At) (c k : ℕ) (a : At) → leaf_at leaves c k ≡ Some a → a.sub ≡ k
 sub_is leaves c k a e = (Decides-eqb a.sub k).0 (facts.both (a.comp == c) (a.sub == k) (found_test (λ (b : At). b.comp == c && b.sub == k) leaves a e)).1
 
--- a leaf that fits its subcomponent
-leaf_fit : (s : Sources) (profile : ProfileValue) (mark : Mark) (leaf : Leaf) (sub : SubValue) (text : List ℕ) → leaf_failures s profile mark leaf sub ≡ [] → IsShaped (leaf_shape s leaf) text → (text ≡ [] → ⊥) → is_null text ≡ false → IsFit profile sub text
-leaf_fit s profile mark (copied source) sub text none shaped some other = fit_values profile mark (leaf_shape s (copied source)) sub text none shaped some other
-leaf_fit s profile mark (looked_up table source) sub text none shaped some other = fit_values profile mark (leaf_shape s (looked_up table source)) sub text none shaped some other
-leaf_fit s profile mark (dated digits source) sub text none shaped some other = fit_values profile mark (leaf_shape s (dated digits source)) sub text none shaped some other
-leaf_fit s profile mark (const value) sub text none shaped some other = by (shaped.values some other)
-  where
-    allowed : (b : Bool) → is_null value ≡ false → not (is_null value) && b ≡ false → b ≡ false
-    allowed b e f = subst (λ n. not n && b ≡ false) e f
-
-    by : Among text (value ∷ []) → IsFit profile sub text
-    by (inr h) = absurd h
-    by (inl same) =
-        let values = (leaf_shape s (const value)).values in
-        let p = neither (may_be_unlisted values (table_values profile.tables sub)) (may_be_long (len_count profile) values sub.len) (allowed _ (sym (ap is_null same) ∙ other) (none_fails 12 _ _ none)) in
-        fit_of profile values sub text p.0 p.1 (shaped.values some other)
-
 module _ (names : List (List ℕ)) (s : Sources) (has : HasTables names s.profile.tables) (Here : ℕ → Type 0) (W : ℕ → Walked) (walked : (r : ℕ) → Here r → IsWalked names s (W r)) (repeated : Bool) (leaves : List At) (lawful : LawfulLeaves repeated leaves) (m : Texts) (number : ℕ) (means : (r c k : ℕ) → Where (Here r) (AtMeans (W r) (leaf_at leaves c k)) (text_of m number r c k)) where
-  leaf_means : (r c k : ℕ) (a : At) → Here r → leaf_at leaves c k ≡ Some a → LeafMeans (W r) a.leaf (text_of m number r c k) → IsShaped (leaf_shape s a.leaf) (text_of m number r c k)
-  leaf_means r c k a here e h = leaf_shaped names s (W r) has (walked r here) repeated a.leaf (text_of m number r c k) (found_all (λ (b : At). b.comp == c && b.sub == k) (LawfulAt repeated) leaves a e lawful.each).leaf h
+  leaf_means : (r c k : ℕ) (a : At) → Here r → leaf_at leaves c k ≡ Some a → FirstText (W r) (alternatives a) (text_of m number r c k) → IsFirstShaped s (alternatives a) (text_of m number r c k)
+  leaf_means r c k a here e h = first_shaped names s (W r) has (walked r here) repeated (alternatives a) (text_of m number r c k) (found_all (λ (b : At). b.comp == c && b.sub == k) (LawfulAt repeated) leaves a e lawful.each).each h
 
   made : (r c k : ℕ) → 0 < length (text_of m number r c k) → IsMade s Here leaves m number r c k
   made r c k lt = by (means r c k)
@@ -94,7 +77,7 @@ module _ (names : List (List ℕ)) (s : Sources) (has : HasTables names s.profil
       by (inr h) = absurd (text_there _ lt h.1)
 
   -- what is always there is there
-  sure_text : (r : ℕ) (a : At) → Here r → leaf_at leaves a.comp a.sub ≡ Some a → is_always (leaf_shape s a.leaf).presence ≡ true → 0 < length (text_of m number r a.comp a.sub)
+  sure_text : (r : ℕ) (a : At) → Here r → leaf_at leaves a.comp a.sub ≡ Some a → is_always (at_presence s a) ≡ true → 0 < length (text_of m number r a.comp a.sub)
   sure_text r a here e always = by (means r a.comp a.sub)
     where
       by : Where (Here r) (AtMeans (W r) (leaf_at leaves a.comp a.sub)) (text_of m number r a.comp a.sub) → 0 < length (text_of m number r a.comp a.sub)
@@ -104,8 +87,8 @@ module _ (names : List (List ℕ)) (s : Sources) (has : HasTables names s.profil
   each_found : AllByRecursion (λ (a : At). leaf_at leaves a.comp a.sub ≡ Some a) leaves
   each_found = found_each place (λ (p : LeafPlace) (a : At). a.comp == p.comp && a.sub == p.sub) (λ a. and_of (a.comp == a.comp) (a.sub == a.sub) (own_number a.comp) (own_number a.sub)) same_place leaves lawful.distinct
 
-  -- no text is that of a leaf that never is there
-  gone_text : (r c k : ℕ) (a : At) → IsShaped (leaf_shape s a.leaf) (text_of m number r c k) → 0 < length (text_of m number r c k) → is_absent (leaf_shape s a.leaf).presence ≡ true → ⊥
+  -- no text is that of a place that never has one
+  gone_text : (r c k : ℕ) (a : At) → IsFirstShaped s (alternatives a) (text_of m number r c k) → 0 < length (text_of m number r c k) → is_absent (at_presence s a) ≡ true → ⊥
   gone_text r c k a shaped lt e = text_there _ lt (shaped.absent e)
 
   -- ---- how often
@@ -119,12 +102,12 @@ module _ (names : List (List ℕ)) (s : Sources) (has : HasTables names s.profil
       gone : all_absent s leaves ≡ true → (r : ℕ) → RepAt m number r → ⊥
       gone e r at =
           let is_made = made r at.0 at.1.0 at.1.1 in
-          let absent = found_all (λ (b : At). b.comp == at.0 && b.sub == at.1.0) (λ (a : At). is_absent (leaf_shape s a.leaf).presence ≡ true) leaves is_made.at is_made.found (all_pass (λ (a : At). is_absent (leaf_shape s a.leaf).presence) leaves e) in
+          let absent = found_all (λ (b : At). b.comp == at.0 && b.sub == at.1.0) (λ (a : At). is_absent (at_presence s a) ≡ true) leaves is_made.at is_made.found (all_pass (λ (a : At). is_absent (at_presence s a)) leaves e) in
           gone_text r at.0 at.1.0 is_made.at is_made.shaped at.1.1 absent
 
       back : some_always s leaves ≡ true → (r : ℕ) → Here r → RepAt m number r
       back e r there =
-          let sure = some_pass (λ (a : At). is_always (leaf_shape s a.leaf).presence) (λ (a : At). leaf_at leaves a.comp a.sub ≡ Some a) leaves e each_found in
+          let sure = some_pass (λ (a : At). is_always (at_presence s a)) (λ (a : At). leaf_at leaves a.comp a.sub ≡ Some a) leaves e each_found in
           (sure.0.comp, (sure.0.sub, sure_text r sure.0 there sure.2 sure.1))
 
       by : (a : Bool) → all_absent s leaves ≡ a → (b : Bool) → some_always s leaves ≡ b → IsCounted (RepAt m number) (if a then never else if b then i else record { least = 0; greatest = i.greatest })
@@ -135,50 +118,50 @@ module _ (names : List (List ℕ)) (s : Sources) (has : HasTables names s.profil
   -- ---- what it holds
 
   module _ (profile : ProfileValue) (mark : Mark) (target : FieldValue) (unfailed : AllByRecursion (λ (a : At). made_leaf s profile target a ≡ []) leaves) (r : ℕ) where
-    parts_of : (c k : ℕ) (at : IsMade s Here leaves m number r c k) → (fails 11 (leaf_mark target.number at.at) ((is_forbidden_comp (comp_of (Some target) at.at.comp) || is_forbidden_sub (sub_of (comp_of (Some target) at.at.comp) at.at.sub)) && not (is_absent (leaf_shape s at.at.leaf).presence)) ≡ []) × (placed s profile (leaf_mark target.number at.at) at.at.leaf (sub_of (comp_of (Some target) at.at.comp) at.at.sub) ≡ [])
-    parts_of c k at = both_empty _ (placed s profile (leaf_mark target.number at.at) at.at.leaf (sub_of (comp_of (Some target) at.at.comp) at.at.sub)) (found_all (λ (b : At). b.comp == c && b.sub == k) (λ (a : At). made_leaf s profile target a ≡ []) leaves at.at at.found unfailed)
+    parts_of : (c k : ℕ) (at : IsMade s Here leaves m number r c k) → (fails 11 (leaf_mark target.number at.at) ((is_forbidden_comp (comp_of (Some target) at.at.comp) || is_forbidden_sub (sub_of (comp_of (Some target) at.at.comp) at.at.sub)) && not (is_absent (at_presence s at.at))) ≡ []) × (placed s profile (leaf_mark target.number at.at) (alternatives at.at) (sub_of (comp_of (Some target) at.at.comp) at.at.sub) ≡ [])
+    parts_of c k at = both_empty _ (placed s profile (leaf_mark target.number at.at) (alternatives at.at) (sub_of (comp_of (Some target) at.at.comp) at.at.sub)) (found_all (λ (b : At). b.comp == c && b.sub == k) (λ (a : At). made_leaf s profile target a ≡ []) leaves at.at at.found unfailed)
 
-    -- where the component or subcomponent of a leaf is forbidden, the leaf is never there
+    -- where the component or subcomponent of a place is forbidden, it never has a text
     kept_out : (c k : ℕ) → 0 < length (text_of m number r c k) → is_forbidden_comp (comp_of (Some target) c) || is_forbidden_sub (sub_of (comp_of (Some target) c) k) ≡ true → ⊥
     kept_out c k lt e =
         let at = made r c k lt in
         let comp = comp_is leaves c k at.at at.found in
         let sub = sub_is leaves c k at.at at.found in
         let asked : is_forbidden_comp (comp_of (Some target) at.at.comp) || is_forbidden_sub (sub_of (comp_of (Some target) at.at.comp) at.at.sub) ≡ true = ap (λ n. is_forbidden_comp (comp_of (Some target) n) || is_forbidden_sub (sub_of (comp_of (Some target) n) at.at.sub)) comp ∙ ap (λ n. is_forbidden_comp (comp_of (Some target) c) || is_forbidden_sub (sub_of (comp_of (Some target) c) n)) sub ∙ e in
-        gone_text r c k at.at at.shaped lt (demanded _ (is_absent (leaf_shape s at.at.leaf).presence) (none_fails 11 (leaf_mark target.number at.at) _ (parts_of c k at).0) asked)
+        gone_text r c k at.at at.shaped lt (demanded _ (is_absent (at_presence s at.at)) (none_fails 11 (leaf_mark target.number at.at) _ (parts_of c k at).0) asked)
 
     fit_leaf : (c k : ℕ) (sub : SubValue) → sub_of (comp_of (Some target) c) k ≡ Some sub → (text_of m number r c k ≡ [] → ⊥) → is_null (text_of m number r c k) ≡ false → IsFit profile sub (text_of m number r c k)
     fit_leaf c k sub e some other =
         let at = made r c k (some_text _ some) in
         let here : sub_of (comp_of (Some target) at.at.comp) at.at.sub ≡ Some sub = ap (λ n. sub_of (comp_of (Some target) n) at.at.sub) (comp_is leaves c k at.at at.found) ∙ ap (sub_of (comp_of (Some target) c)) (sub_is leaves c k at.at at.found) ∙ e in
-        leaf_fit s profile (leaf_mark target.number at.at) at.at.leaf sub (text_of m number r c k) (subst (λ o. placed s profile (leaf_mark target.number at.at) at.at.leaf o ≡ []) here (parts_of c k at).1) at.shaped some other
+        first_fit s profile (leaf_mark target.number at.at) sub (text_of m number r c k) some other (alternatives at.at) (subst (λ o. placed s profile (leaf_mark target.number at.at) (alternatives at.at) o ≡ []) here (parts_of c k at).1) (at.shaped.by_one some)
 
     -- a required component is there
     comp_sure : (c : ℕ) → RepAt m number r → is_comp_sure s leaves c ≡ true → CompAt m number r c
-    comp_sure c rep e = by (either (list_any (λ (a : At). a.comp == c && is_always (leaf_shape s a.leaf).presence) leaves) (list_all (λ (a : At). a.comp == c || is_absent (leaf_shape s a.leaf).presence) leaves) e)
+    comp_sure c rep e = by (either (list_any (λ (a : At). a.comp == c && is_always (at_presence s a)) leaves) (list_all (λ (a : At). a.comp == c || is_absent (at_presence s a)) leaves) e)
       where
         is_made : IsMade s Here leaves m number r rep.0 rep.1.0
         is_made = made r rep.0 rep.1.0 rep.1.1
 
-        alone : (is_made.at.comp == c ≡ true) ⊎ (is_absent (leaf_shape s is_made.at.leaf).presence ≡ true) → CompAt m number r c
+        alone : (is_made.at.comp == c ≡ true) ⊎ (is_absent (at_presence s is_made.at) ≡ true) → CompAt m number r c
         alone (inl same) =
             let comp : rep.0 ≡ c = sym (comp_is leaves rep.0 rep.1.0 is_made.at is_made.found) ∙ (Decides-eqb is_made.at.comp c).0 same in
             subst (CompAt m number r) comp rep.1
         alone (inr absent) = absurd (gone_text r rep.0 rep.1.0 is_made.at is_made.shaped rep.1.1 absent)
 
-        by : (list_any (λ (a : At). a.comp == c && is_always (leaf_shape s a.leaf).presence) leaves ≡ true) ⊎ (list_all (λ (a : At). a.comp == c || is_absent (leaf_shape s a.leaf).presence) leaves ≡ true) → CompAt m number r c
+        by : (list_any (λ (a : At). a.comp == c && is_always (at_presence s a)) leaves ≡ true) ⊎ (list_all (λ (a : At). a.comp == c || is_absent (at_presence s a)) leaves ≡ true) → CompAt m number r c
         by (inl any) =
-            let sure = some_pass (λ (a : At). a.comp == c && is_always (leaf_shape s a.leaf).presence) (λ (a : At). leaf_at leaves a.comp a.sub ≡ Some a) leaves any each_found in
+            let sure = some_pass (λ (a : At). a.comp == c && is_always (at_presence s a)) (λ (a : At). leaf_at leaves a.comp a.sub ≡ Some a) leaves any each_found in
             let p = facts.both (sure.0.comp == c) _ sure.1 in
             subst (CompAt m number r) ((Decides-eqb sure.0.comp c).0 p.0) (sure.0.sub, sure_text r sure.0 is_made.here sure.2 p.1)
         by (inr all) =
             alone
             (either (is_made.at.comp == c) _
-            (found_all (λ (b : At). b.comp == rep.0 && b.sub == rep.1.0) (λ (a : At). a.comp == c || is_absent (leaf_shape s a.leaf).presence ≡ true) leaves is_made.at is_made.found (all_pass (λ (a : At). a.comp == c || is_absent (leaf_shape s a.leaf).presence) leaves all)))
+            (found_all (λ (b : At). b.comp == rep.0 && b.sub == rep.1.0) (λ (a : At). a.comp == c || is_absent (at_presence s a) ≡ true) leaves is_made.at is_made.found (all_pass (λ (a : At). a.comp == c || is_absent (at_presence s a)) leaves all)))
 
     -- and so is a required subcomponent of a component that is there
     sub_sure : (c k : ℕ) → CompAt m number r c → is_sub_sure s leaves c k ≡ true → 0 < length (text_of m number r c k)
-    sub_sure c k there e = by (either (list_any (λ (a : At). a.comp == c && a.sub == k && is_always (leaf_shape s a.leaf).presence) leaves) (list_all (λ (a : At). not (a.comp == c) || a.sub == k || is_absent (leaf_shape s a.leaf).presence) leaves) e)
+    sub_sure c k there e = by (either (list_any (λ (a : At). a.comp == c && a.sub == k && is_always (at_presence s a)) leaves) (list_all (λ (a : At). not (a.comp == c) || a.sub == k || is_absent (at_presence s a)) leaves) e)
       where
         is_made : IsMade s Here leaves m number r c there.0
         is_made = made r c there.0 there.1
@@ -192,13 +175,13 @@ module _ (names : List (List ℕ)) (s : Sources) (has : HasTables names s.profil
             let sub : there.0 ≡ k = sym (sub_is leaves c there.0 is_made.at is_made.found) ∙ (Decides-eqb is_made.at.sub k).0 same in
             subst (λ n. 0 < length (text_of m number r c n)) sub there.1
 
-        alone : (not (is_made.at.comp == c) || is_made.at.sub == k ≡ true) ⊎ (is_absent (leaf_shape s is_made.at.leaf).presence ≡ true) → 0 < length (text_of m number r c k)
+        alone : (not (is_made.at.comp == c) || is_made.at.sub == k ≡ true) ⊎ (is_absent (at_presence s is_made.at) ≡ true) → 0 < length (text_of m number r c k)
         alone (inl same) = here (either (not (is_made.at.comp == c)) (is_made.at.sub == k) same)
         alone (inr absent) = absurd (gone_text r c there.0 is_made.at is_made.shaped there.1 absent)
 
-        by : (list_any (λ (a : At). a.comp == c && a.sub == k && is_always (leaf_shape s a.leaf).presence) leaves ≡ true) ⊎ (list_all (λ (a : At). not (a.comp == c) || a.sub == k || is_absent (leaf_shape s a.leaf).presence) leaves ≡ true) → 0 < length (text_of m number r c k)
+        by : (list_any (λ (a : At). a.comp == c && a.sub == k && is_always (at_presence s a)) leaves ≡ true) ⊎ (list_all (λ (a : At). not (a.comp == c) || a.sub == k || is_absent (at_presence s a)) leaves ≡ true) → 0 < length (text_of m number r c k)
         by (inl any) =
-            let sure = some_pass (λ (a : At). a.comp == c && a.sub == k && is_always (leaf_shape s a.leaf).presence) (λ (a : At). leaf_at leaves a.comp a.sub ≡ Some a) leaves any each_found in
+            let sure = some_pass (λ (a : At). a.comp == c && a.sub == k && is_always (at_presence s a)) (λ (a : At). leaf_at leaves a.comp a.sub ≡ Some a) leaves any each_found in
             let p = facts.both (sure.0.comp == c && sure.0.sub == k) _ sure.1 in
             let q = facts.both (sure.0.comp == c) (sure.0.sub == k) p.0 in
             subst (λ n. 0 < length (text_of m number r c n)) ((Decides-eqb sure.0.sub k).0 q.1)
@@ -206,7 +189,7 @@ module _ (names : List (List ℕ)) (s : Sources) (has : HasTables names s.profil
         by (inr all) =
             alone
             (either (not (is_made.at.comp == c) || is_made.at.sub == k) _
-            (found_all (λ (b : At). b.comp == c && b.sub == there.0) (λ (a : At). not (a.comp == c) || a.sub == k || is_absent (leaf_shape s a.leaf).presence ≡ true) leaves is_made.at is_made.found (all_pass (λ (a : At). not (a.comp == c) || a.sub == k || is_absent (leaf_shape s a.leaf).presence) leaves all)))
+            (found_all (λ (b : At). b.comp == c && b.sub == there.0) (λ (a : At). not (a.comp == c) || a.sub == k || is_absent (at_presence s a) ≡ true) leaves is_made.at is_made.found (all_pass (λ (a : At). not (a.comp == c) || a.sub == k || is_absent (at_presence s a)) leaves all)))
 
     sub_made : (c : CompValue) → comp_of (Some target) c.number ≡ Some c → CompAt m number r c.number → (sub : SubValue) → made_sub s (comp_in mark c.number) leaves c.number sub ≡ [] → sub_of (Some c) sub.number ≡ Some sub → (spot : List ℕ) → SubBreach profile sub (text_of m number r c.number sub.number) spot → ⊥
     sub_made c ec there sub none es =

@@ -9,10 +9,10 @@ use Rattle.gw_validate.specs.Conforming.{Conforms}
 use Rattle.gw_validate.specs.Trees.{Tree}
 use Rattle.gw_validate.specs.Broken.{IsTreeOf}
 use Rattle.gw_resolve.specs.Places.{Place, child, nodes_of_child, name_of}
-use Rattle.gw_resolve.specs.Resolved.{Rule, Items, no_items, segment_item, group_item, flat_item, Resolved}
+use Rattle.gw_resolve.specs.Resolved.{FieldCondition, Rule, Items, no_items, segment_item, group_item, flat_item, Resolved}
 use Rattle.gw_interp.specs.Occurrences as occurrences
 use Rattle.gw_interp.specs.Occurrences.{Occurrence, at_place}
-use Rattle.gw_interp.specs.Meaning.{Walked, IsImage, IsOne, ForEach, walked, Segments, Give}
+use Rattle.gw_interp.specs.Meaning.{Walked, IsImage, IsOne, ForEach, walked, chosen, Segments, Give}
 use Rattle.gw_interp.specs.own.Ready.{MayImage, MaySegments, MayGive, IsOtherName, AreNames}
 use Rattle.gw_interp.specs.Sound.{IsMade}
 use Rattle.gw_interp.proofs.Paths.{all_append}
@@ -57,27 +57,27 @@ one_made w name rules may =
     }
 
 module _ (m : List SegmentValue) where
-  segments_made : (scope : List Occurrence) (name : List ℕ) (rules : List Rule) (place : Option Place) → MaySegments m scope name rules place → Made (Segments m scope name rules place)
-  segments_made scope name rules None may = one_made (walked m scope) name rules may
-  segments_made scope name rules (Some place) may =
-      each_made (λ o. IsOne (IsImage (walked m (o ∷ scope)) name rules)) (at_place scope place)
-      (all_as (λ o. MayImage (walked m (o ∷ scope)) name rules) (λ o. Made (IsOne (IsImage (walked m (o ∷ scope)) name rules))) (λ o may. one_made (walked m (o ∷ scope)) name rules may) (at_place scope place) may)
+  segments_made : (scope : List Occurrence) (name : List ℕ) (rules : List Rule) (condition : Option FieldCondition) (place : Option Place) → MaySegments m scope name rules condition place → Made (Segments m scope name rules condition place)
+  segments_made scope name rules condition None may = one_made (walked m scope) name rules may
+  segments_made scope name rules condition (Some place) may =
+      each_made (λ o. IsOne (IsImage (walked m (o ∷ scope)) name rules)) (chosen m scope condition (at_place scope place))
+      (all_as (λ o. MayImage (walked m (o ∷ scope)) name rules) (λ o. Made (IsOne (IsImage (walked m (o ∷ scope)) name rules))) (λ o may. one_made (walked m (o ∷ scope)) name rules may) (chosen m scope condition (at_place scope place)) may)
 
   give_made : (items : Items) (scope : List Occurrence) (target : Forest) → MayGive m scope target items → Made (Give m scope target items)
   give_made no_items scope target may = none_made
   give_made (segment_item s rest) scope target may =
-      cut_made (Segments m scope (name_of (child target s.child)) s.rules s.place) (Give m scope target rest)
-      (segments_made scope (name_of (child target s.child)) s.rules s.place may.0) (give_made rest scope target may.1)
+      cut_made (Segments m scope (name_of (child target s.child)) s.rules s.condition s.place) (Give m scope target rest)
+      (segments_made scope (name_of (child target s.child)) s.rules s.condition s.place may.0) (give_made rest scope target may.1)
   give_made (group_item g items rest) scope target may =
-      cut_made (ForEach (λ o. Give m (o ∷ scope) (nodes_of_child target g.child) items) (at_place scope g.place)) (Give m scope target rest)
-      (each_made (λ o. Give m (o ∷ scope) (nodes_of_child target g.child) items) (at_place scope g.place)
+      cut_made (ForEach (λ o. Give m (o ∷ scope) (nodes_of_child target g.child) items) (chosen m scope g.condition (at_place scope g.place))) (Give m scope target rest)
+      (each_made (λ o. Give m (o ∷ scope) (nodes_of_child target g.child) items) (chosen m scope g.condition (at_place scope g.place))
       (all_as (λ o. MayGive m (o ∷ scope) (nodes_of_child target g.child) items) (λ o. Made (Give m (o ∷ scope) (nodes_of_child target g.child) items))
-      (λ o may. give_made items (o ∷ scope) (nodes_of_child target g.child) may) (at_place scope g.place) may.0))
+      (λ o may. give_made items (o ∷ scope) (nodes_of_child target g.child) may) (chosen m scope g.condition (at_place scope g.place)) may.0))
       (give_made rest scope target may.1)
   give_made (flat_item f items rest) scope target may =
-      cut_made (ForEach (λ o. Give m (o ∷ scope) target items) (at_place scope f.place)) (Give m scope target rest)
-      (each_made (λ o. Give m (o ∷ scope) target items) (at_place scope f.place)
-      (all_as (λ o. MayGive m (o ∷ scope) target items) (λ o. Made (Give m (o ∷ scope) target items)) (λ o may. give_made items (o ∷ scope) target may) (at_place scope f.place) may.0))
+      cut_made (ForEach (λ o. Give m (o ∷ scope) target items) (chosen m scope f.condition (at_place scope f.place))) (Give m scope target rest)
+      (each_made (λ o. Give m (o ∷ scope) target items) (chosen m scope f.condition (at_place scope f.place))
+      (all_as (λ o. MayGive m (o ∷ scope) target items) (λ o. Made (Give m (o ∷ scope) target items)) (λ o may. give_made items (o ∷ scope) target may) (chosen m scope f.condition (at_place scope f.place)) may.0))
       (give_made rest scope target may.1)
 
 -- ---- a message

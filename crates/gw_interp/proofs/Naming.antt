@@ -16,10 +16,10 @@ use Rattle.gw_validate.specs.Conforming.{One, Seq, Conforms}
 use Rattle.gw_validate.specs.Trees.{Tree}
 use Rattle.gw_validate.specs.Broken.{IsTreeOf}
 use Rattle.gw_resolve.specs.Places.{Place, child, nodes_of_child, name_of}
-use Rattle.gw_resolve.specs.Resolved.{Rule, Items, no_items, segment_item, group_item, flat_item, Resolved}
+use Rattle.gw_resolve.specs.Resolved.{FieldCondition, Rule, Items, no_items, segment_item, group_item, flat_item, Resolved}
 use Rattle.gw_interp.specs.Occurrences as occurrences
 use Rattle.gw_interp.specs.Occurrences.{Occurrence, at_place}
-use Rattle.gw_interp.specs.Meaning.{Walked, IsImage, IsOne, ForEach, walked, SegmentsBy, GiveBy, Give}
+use Rattle.gw_interp.specs.Meaning.{Walked, IsImage, IsOne, ForEach, walked, chosen, SegmentsBy, GiveBy, Give}
 use Rattle.gw_interp.specs.own.Ready.{names_if, names_given, IsOtherName, AreNames}
 use Rattle.gw_interp.proofs.LevelsSound.{from_eq}
 use Rattle.gw_interp.proofs.Named.{seq_each, each_both}
@@ -42,9 +42,9 @@ module _ (P : SegmentValue → Type 0) (name : List ℕ) (named : (s : SegmentVa
   name_one list h = ap names_of h.list_is ∙ ap (λ n. n ∷ []) (named h.only h.holds)
 
 module _ (Image : Walked → List ℕ → List Rule → SegmentValue → Type 0) (named : (w : Walked) (name : List ℕ) (rules : List Rule) (s : SegmentValue) → Image w name rules s → s.name ≡ name) (m : List SegmentValue) where
-  names_segments : (scope : List Occurrence) (name : List ℕ) (rules : List Rule) (place : Option Place) (list : List SegmentValue) → SegmentsBy Image m scope name rules place list → names_of list ≡ names_if scope name place
-  names_segments scope name rules None list h = name_one (Image (walked m scope) name rules) name (named (walked m scope) name rules) list h
-  names_segments scope name rules (Some place) list h = by (at_place scope place) list h
+  names_segments : (scope : List Occurrence) (name : List ℕ) (rules : List Rule) (condition : Option FieldCondition) (place : Option Place) (list : List SegmentValue) → SegmentsBy Image m scope name rules condition place list → names_of list ≡ names_if m scope name condition place
+  names_segments scope name rules condition None list h = name_one (Image (walked m scope) name rules) name (named (walked m scope) name rules) list h
+  names_segments scope name rules condition (Some place) list h = by (chosen m scope condition (at_place scope place)) list h
     where
       by : (os : List Occurrence) (list : List SegmentValue) → ForEach (λ o. IsOne (Image (walked m (o ∷ scope)) name rules)) os list → names_of list ≡ map (λ o. name) os
       by [] list h = ap names_of h
@@ -57,21 +57,21 @@ module _ (Image : Walked → List ℕ → List Rule → SegmentValue → Type 0)
   joined_names P Q xs ys list c front back =
       ap names_of c.joined ∙ map-append (λ (s : SegmentValue). s.name) c.front c.back ∙ ap (λ ns. ns ++ names_of c.back) front ∙ ap (λ ns. xs ++ ns) back
 
-  pub names_by : (items : Items) (scope : List Occurrence) (target : Forest) (list : List SegmentValue) → GiveBy Image m scope target items list → names_of list ≡ names_given scope target items
+  pub names_by : (items : Items) (scope : List Occurrence) (target : Forest) (list : List SegmentValue) → GiveBy Image m scope target items list → names_of list ≡ names_given m scope target items
   names_by no_items scope target list h = ap names_of h
   names_by (segment_item s rest) scope target list h =
-      joined_names _ _ (names_if scope (name_of (child target s.child)) s.place) (names_given scope target rest) list h
-      (names_segments scope (name_of (child target s.child)) s.rules s.place h.front h.here) (names_by rest scope target h.back h.there)
+      joined_names _ _ (names_if m scope (name_of (child target s.child)) s.condition s.place) (names_given m scope target rest) list h
+      (names_segments scope (name_of (child target s.child)) s.rules s.condition s.place h.front h.here) (names_by rest scope target h.back h.there)
   names_by (group_item g items rest) scope target list h =
-      joined_names _ _ (flat_map (λ o. names_given (o ∷ scope) (nodes_of_child target g.child) items) (at_place scope g.place)) (names_given scope target rest) list h
-      (names_each (λ o. GiveBy Image m (o ∷ scope) (nodes_of_child target g.child) items) (λ o. names_given (o ∷ scope) (nodes_of_child target g.child) items)
-      (λ o part k. names_by items (o ∷ scope) (nodes_of_child target g.child) part k) (at_place scope g.place) h.front h.here) (names_by rest scope target h.back h.there)
+      joined_names _ _ (flat_map (λ o. names_given m (o ∷ scope) (nodes_of_child target g.child) items) (chosen m scope g.condition (at_place scope g.place))) (names_given m scope target rest) list h
+      (names_each (λ o. GiveBy Image m (o ∷ scope) (nodes_of_child target g.child) items) (λ o. names_given m (o ∷ scope) (nodes_of_child target g.child) items)
+      (λ o part k. names_by items (o ∷ scope) (nodes_of_child target g.child) part k) (chosen m scope g.condition (at_place scope g.place)) h.front h.here) (names_by rest scope target h.back h.there)
   names_by (flat_item f items rest) scope target list h =
-      joined_names _ _ (flat_map (λ o. names_given (o ∷ scope) target items) (at_place scope f.place)) (names_given scope target rest) list h
-      (names_each (λ o. GiveBy Image m (o ∷ scope) target items) (λ o. names_given (o ∷ scope) target items)
-      (λ o part k. names_by items (o ∷ scope) target part k) (at_place scope f.place) h.front h.here) (names_by rest scope target h.back h.there)
+      joined_names _ _ (flat_map (λ o. names_given m (o ∷ scope) target items) (chosen m scope f.condition (at_place scope f.place))) (names_given m scope target rest) list h
+      (names_each (λ o. GiveBy Image m (o ∷ scope) target items) (λ o. names_given m (o ∷ scope) target items)
+      (λ o part k. names_by items (o ∷ scope) target part k) (chosen m scope f.condition (at_place scope f.place)) h.front h.here) (names_by rest scope target h.back h.there)
 
-pub given_names : (m : List SegmentValue) (scope : List Occurrence) (target : Forest) (items : Items) (list : List SegmentValue) → Give m scope target items list → map (λ (s : SegmentValue). s.name) list ≡ names_given scope target items
+pub given_names : (m : List SegmentValue) (scope : List Occurrence) (target : Forest) (items : Items) (list : List SegmentValue) → Give m scope target items list → map (λ (s : SegmentValue). s.name) list ≡ names_given m scope target items
 given_names m scope target items list h = names_by IsImage (λ w name rules s image. image.named) m items scope target list h
 
 -- ---- segments of these names, without texts
@@ -91,39 +91,39 @@ bare_each Part names each (o ∷ os) =
     record { front = Bare (names o); back = Bare (flat_map names os); joined = map-append begun (names o) (flat_map names os); here = each o; there = bare_each Part names each os }
 
 module _ (m : List SegmentValue) where
-  bare_segments : (scope : List Occurrence) (name : List ℕ) (rules : List Rule) (place : Option Place) → SegmentsBy HasName m scope name rules place (Bare (names_if scope name place))
-  bare_segments scope name rules None = bare_one name
-  bare_segments scope name rules (Some place) = by (at_place scope place)
+  bare_segments : (scope : List Occurrence) (name : List ℕ) (rules : List Rule) (condition : Option FieldCondition) (place : Option Place) → SegmentsBy HasName m scope name rules condition place (Bare (names_if m scope name condition place))
+  bare_segments scope name rules condition None = bare_one name
+  bare_segments scope name rules condition (Some place) = by (chosen m scope condition (at_place scope place))
     where
       by : (os : List Occurrence) → ForEach (λ o. IsOne (λ s. s.name ≡ name)) os (Bare (map (λ o. name) os))
       by [] = refl
       by (o ∷ os) = record { front = Bare (name ∷ []); back = Bare (map (λ o. name) os); joined = refl; here = bare_one name; there = by os }
 
-  bare_given : (items : Items) (scope : List Occurrence) (target : Forest) → GiveBy HasName m scope target items (Bare (names_given scope target items))
+  bare_given : (items : Items) (scope : List Occurrence) (target : Forest) → GiveBy HasName m scope target items (Bare (names_given m scope target items))
   bare_given no_items scope target = refl
   bare_given (segment_item s rest) scope target =
       record {
-        front = Bare (names_if scope (name_of (child target s.child)) s.place);
-        back = Bare (names_given scope target rest);
-        joined = map-append begun (names_if scope (name_of (child target s.child)) s.place) (names_given scope target rest);
-        here = bare_segments scope (name_of (child target s.child)) s.rules s.place;
+        front = Bare (names_if m scope (name_of (child target s.child)) s.condition s.place);
+        back = Bare (names_given m scope target rest);
+        joined = map-append begun (names_if m scope (name_of (child target s.child)) s.condition s.place) (names_given m scope target rest);
+        here = bare_segments scope (name_of (child target s.child)) s.rules s.condition s.place;
         there = bare_given rest scope target;
       }
   bare_given (group_item g items rest) scope target =
       record {
-        front = Bare (flat_map (λ o. names_given (o ∷ scope) (nodes_of_child target g.child) items) (at_place scope g.place));
-        back = Bare (names_given scope target rest);
-        joined = map-append begun (flat_map (λ o. names_given (o ∷ scope) (nodes_of_child target g.child) items) (at_place scope g.place)) (names_given scope target rest);
-        here = bare_each (λ o. GiveBy HasName m (o ∷ scope) (nodes_of_child target g.child) items) (λ o. names_given (o ∷ scope) (nodes_of_child target g.child) items)
-            (λ o. bare_given items (o ∷ scope) (nodes_of_child target g.child)) (at_place scope g.place);
+        front = Bare (flat_map (λ o. names_given m (o ∷ scope) (nodes_of_child target g.child) items) (chosen m scope g.condition (at_place scope g.place)));
+        back = Bare (names_given m scope target rest);
+        joined = map-append begun (flat_map (λ o. names_given m (o ∷ scope) (nodes_of_child target g.child) items) (chosen m scope g.condition (at_place scope g.place))) (names_given m scope target rest);
+        here = bare_each (λ o. GiveBy HasName m (o ∷ scope) (nodes_of_child target g.child) items) (λ o. names_given m (o ∷ scope) (nodes_of_child target g.child) items)
+            (λ o. bare_given items (o ∷ scope) (nodes_of_child target g.child)) (chosen m scope g.condition (at_place scope g.place));
         there = bare_given rest scope target;
       }
   bare_given (flat_item f items rest) scope target =
       record {
-        front = Bare (flat_map (λ o. names_given (o ∷ scope) target items) (at_place scope f.place));
-        back = Bare (names_given scope target rest);
-        joined = map-append begun (flat_map (λ o. names_given (o ∷ scope) target items) (at_place scope f.place)) (names_given scope target rest);
-        here = bare_each (λ o. GiveBy HasName m (o ∷ scope) target items) (λ o. names_given (o ∷ scope) target items) (λ o. bare_given items (o ∷ scope) target) (at_place scope f.place);
+        front = Bare (flat_map (λ o. names_given m (o ∷ scope) target items) (chosen m scope f.condition (at_place scope f.place)));
+        back = Bare (names_given m scope target rest);
+        joined = map-append begun (flat_map (λ o. names_given m (o ∷ scope) target items) (chosen m scope f.condition (at_place scope f.place))) (names_given m scope target rest);
+        here = bare_each (λ o. GiveBy HasName m (o ∷ scope) target items) (λ o. names_given m (o ∷ scope) target items) (λ o. bare_given items (o ∷ scope) target) (chosen m scope f.condition (at_place scope f.place));
         there = bare_given rest scope target;
       }
 
@@ -187,14 +187,14 @@ bare_names (n ∷ names) = ap (λ ns. n ∷ ns) (bare_names names)
 
 module _ (source target : ProfileValue) (resolved : Resolved) (allows : Allows source target resolved) (m : List SegmentValue) (tree : Tree) (conforms : Conforms source m) (is : IsTreeOf source m tree) where
   -- the names of what the map gives are MSH and then others
-  pub names_headed : AreHeaded (names_given (occurrences.nodes tree ∷ []) target.nodes resolved.items)
+  pub names_headed : AreHeaded (names_given m (occurrences.nodes tree ∷ []) target.nodes resolved.items)
   names_headed =
-      let names = names_given (occurrences.nodes tree ∷ []) target.nodes resolved.items in
+      let names = names_given m (occurrences.nodes tree ∷ []) target.nodes resolved.items in
       let seq = seq_of source target resolved allows m tree conforms is HasName meets_all (λ es os holder low name rules fields s h rising lawful rules_lawful none image. (image, tt)) (Bare names) (bare_given m resolved.items (occurrences.nodes tree ∷ []) target.nodes) in
       subst AreHeaded (bare_names names) (headed_names (table_names target.tables) target.nodes allows.target_formed.headed allows.target_formed.segments (Bare names) seq)
 
-  pub are_names : AreNames (names_given (occurrences.nodes tree ∷ []) target.nodes resolved.items)
+  pub are_names : AreNames (names_given m (occurrences.nodes tree ∷ []) target.nodes resolved.items)
   are_names = subst AreNames (sym names_headed.names_are) (refl, names_headed.each)
 
-  pub some_names : 0 < length (names_given (occurrences.nodes tree ∷ []) target.nodes resolved.items)
+  pub some_names : 0 < length (names_given m (occurrences.nodes tree ∷ []) target.nodes resolved.items)
   some_names = subst (λ ns. 0 < length ns) (sym names_headed.names_are) (omega arith)

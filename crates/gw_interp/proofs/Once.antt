@@ -13,10 +13,11 @@ use Rattle.gw_profile.specs.Shapes.{Forest, ProfileValue}
 use Rattle.gw_validate.specs.Cuts.{Cut}
 use Rattle.gw_validate.specs.Trees.{Tree}
 use Rattle.gw_resolve.specs.Places.{Place, child, nodes_of_child, name_of}
-use Rattle.gw_resolve.specs.Resolved.{Source, of_field, of_current, Leaf, const, copied, looked_up, dated, At, leaf_at, Making, copy, first, repeat, build, Rule, rule_of, Items, no_items, segment_item, group_item, flat_item, Resolved}
+use Rattle.gw_resolve.specs.Resolved.{FieldCondition, Source, of_field, of_current, Leaf, const, copied, looked_up, dated, Alternative, At, alternatives, leaf_at, Making, copy, first, repeat, build, Rule, rule_of, Items, no_items, segment_item, group_item, flat_item, Resolved}
 use Rattle.gw_interp.specs.Occurrences as occurrences
 use Rattle.gw_interp.specs.Occurrences.{Occurrence, at_place, texts_at}
-use Rattle.gw_interp.specs.Meaning.{IsFirst, InFirstOf, IsChosen, InNth, Walked, SourceMeans, look_up, first_digits, LeafMeans, AtMeans, Where, walking, MakingMeans, RuleMeans, IsImage, ForEach, IsOne, walked, Segments, Give, Means}
+use Rattle.gw_interp.specs.Meaning.{IsFirst, InFirstOf, IsChosen, InNth, Walked, SourceMeans, look_up, first_digits, LeafMeans, FirstText, AtMeans, Where, walking, MakingMeans, RuleMeans, IsImage, ForEach, IsOne, walked, chosen, Segments, Give, Means}
+use Rattle.gw_interp.proofs.Shaped.{text_there}
 use Rattle.gw_interp.proofs.Trees.{all_left, all_right}
 use Rattle.gw_interp.proofs.Chosen.{number_once}
 use Rattle.gw_interp.proofs.Images.{each_segment}
@@ -54,9 +55,16 @@ leaf_once w (looked_up table source) x y h g =
     let same : x ≡ y = cc in same
 leaf_once w (dated digits source) x y h g = h.2 ∙ ap (first_digits digits) (source_once w source h.0 g.0 h.1 g.1) ∙ sym g.2
 
+given_once : (w : Walked) (all : List Alternative) → AtMostOne (FirstText w all)
+given_once w [] x y h g = h ∙ sym g
+given_once w (o ∷ os) x y (inl h) (inl g) = leaf_once w o.leaf x y h.0 g.0
+given_once w (o ∷ os) x y (inl h) (inr g) = absurd (text_there x h.1 (leaf_once w o.leaf x [] h.0 g.0))
+given_once w (o ∷ os) x y (inr h) (inl g) = absurd (text_there y g.1 (leaf_once w o.leaf y [] g.0 h.0))
+given_once w (o ∷ os) x y (inr h) (inr g) = given_once w os x y h.1 g.1
+
 at_once : (w : Walked) (a : Option At) → AtMostOne (AtMeans w a)
 at_once w None x y h g = h ∙ sym g
-at_once w (Some a) x y h g = leaf_once w a.leaf x y h g
+at_once w (Some a) x y h g = given_once w (alternatives a) x y h g
 
 where_once : (here : Type 0) (means : List ℕ → Type 0) → AtMostOne means → AtMostOne (Where here means)
 where_once here means one x y (inl h) (inl g) = one x y h.1 g.1
@@ -138,21 +146,21 @@ only_once w name rules a b p q h g =
     h.list_is ∙ ap (λ s. s ∷ []) (image_once w name rules h.only g.only pa.0 pb.0 h.holds g.holds) ∙ sym g.list_is
 
 module _ (m : List SegmentValue) where
-  segments_once : (scope : List Occurrence) (name : List ℕ) (rules : List Rule) (place : Option Place) → OneList (Segments m scope name rules place)
-  segments_once scope name rules None = only_once (walked m scope) name rules
-  segments_once scope name rules (Some place) = each_once _ (λ o. only_once (walked m (o ∷ scope)) name rules) (at_place scope place)
+  segments_once : (scope : List Occurrence) (name : List ℕ) (rules : List Rule) (condition : Option FieldCondition) (place : Option Place) → OneList (Segments m scope name rules condition place)
+  segments_once scope name rules condition None = only_once (walked m scope) name rules
+  segments_once scope name rules condition (Some place) = each_once _ (λ o. only_once (walked m (o ∷ scope)) name rules) (chosen m scope condition (at_place scope place))
 
   give_once : (items : Items) (scope : List Occurrence) (target : Forest) → OneList (Give m scope target items)
   give_once no_items scope target a b p q h g = h ∙ sym g
   give_once (segment_item s rest) scope target a b p q h g =
-      cut_once (Segments m scope (name_of (child target s.child)) s.rules s.place) (Give m scope target rest)
-      (segments_once scope (name_of (child target s.child)) s.rules s.place) (give_once rest scope target) a b p q h g
+      cut_once (Segments m scope (name_of (child target s.child)) s.rules s.condition s.place) (Give m scope target rest)
+      (segments_once scope (name_of (child target s.child)) s.rules s.condition s.place) (give_once rest scope target) a b p q h g
   give_once (group_item x items rest) scope target a b p q h g =
-      cut_once (ForEach (λ o. Give m (o ∷ scope) (nodes_of_child target x.child) items) (at_place scope x.place)) (Give m scope target rest)
-      (each_once _ (λ o. give_once items (o ∷ scope) (nodes_of_child target x.child)) (at_place scope x.place)) (give_once rest scope target) a b p q h g
+      cut_once (ForEach (λ o. Give m (o ∷ scope) (nodes_of_child target x.child) items) (chosen m scope x.condition (at_place scope x.place))) (Give m scope target rest)
+      (each_once _ (λ o. give_once items (o ∷ scope) (nodes_of_child target x.child)) (chosen m scope x.condition (at_place scope x.place))) (give_once rest scope target) a b p q h g
   give_once (flat_item x items rest) scope target a b p q h g =
-      cut_once (ForEach (λ o. Give m (o ∷ scope) target items) (at_place scope x.place)) (Give m scope target rest)
-      (each_once _ (λ o. give_once items (o ∷ scope) target) (at_place scope x.place)) (give_once rest scope target) a b p q h g
+      cut_once (ForEach (λ o. Give m (o ∷ scope) target items) (chosen m scope x.condition (at_place scope x.place))) (Give m scope target rest)
+      (each_once _ (λ o. give_once items (o ∷ scope) target) (chosen m scope x.condition (at_place scope x.place))) (give_once rest scope target) a b p q h g
 
 pub means_once : (target : ProfileValue) (map : Resolved) (m : List SegmentValue) (tree : Tree) (a b : List SegmentValue) → IsMessage a → IsMessage b → Means target map m tree a → Means target map m tree b → a ≡ b
 means_once target map m tree a b p q h g = give_once m map.items (occurrences.nodes tree ∷ []) target.nodes a b (each_segment a p) (each_segment b q) h g

@@ -9,6 +9,7 @@ use Rattle.gw_profile.specs.Deterministic.{AtMost}
 use Rattle.gw_validate.specs.Cuts.{Many}
 use Rattle.gw_resolve.specs.Intervals.{Interval, never, once, add, multiply, sum, product}
 use Rattle.gw_resolve.specs.Places.{Element}
+use Rattle.gw_leaves.specs.Counts.{chosen_count}
 use Rattle.gw_interp.specs.Occurrences.{Occurrence}
 use Rattle.gw_interp.specs.Meaning.{ForEach}
 use Rattle.gw_interp.proofs.Walks.{IsOccurrence}
@@ -48,6 +49,11 @@ module _ (P : List SegmentValue → Type 0) where
         few = omega arith;
         parts = record { front = list; back = []; joined = sym (append-nil list); here = h; there = refl };
       }
+
+  -- what isn't fewer than so many isn't fewer than maybe none
+  pub maybe_fewer : {C : Type 0} (condition : Option C) (c : Interval) (list : List SegmentValue) → Given P c list → Given P (chosen_count condition c) list
+  maybe_fewer None c list g = g
+  maybe_fewer (Some condition) c list g = record { count = g.count; enough = omega arith; few = g.few; parts = g.parts }
 
   at_most_sum : (a b : Option ℕ) (x y : ℕ) → AtMost a x → AtMost b y → AtMost (add a b) (x + y)
   at_most_sum None b x y h k = tt

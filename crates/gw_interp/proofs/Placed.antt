@@ -9,9 +9,9 @@ use Rattle.gw_profile.proofs.Facts.{and_of}
 use Rattle.gw_maplang.specs.declared.rule.LeafPlace.{LeafPlace}
 use Rattle.gw_maplang.specs.Among.{Among, Distinct}
 use Rattle.gw_resolve.specs.Lawful.{place, places}
-use Rattle.gw_resolve.specs.Resolved.{At, leaf_at}
-use Rattle.gw_interp.specs.Meaning.{Walked, LeafMeans, AtMeans}
-use Rattle.gw_interp.specs.own.Sourced.{IsFault}
+use Rattle.gw_resolve.specs.Resolved.{At, alternatives, leaf_at}
+use Rattle.gw_interp.specs.Meaning.{Walked, FirstText, AtMeans}
+use Rattle.gw_interp.specs.own.Sourced.{NoFaultOf}
 use Rattle.gw_interp.specs.own.Putting.{last_name, last_texts}
 use Rattle.gw_interp.specs.own.Filling.{key_of, MayHold, MayFill, AreFilled}
 use Rattle.gw_interp.specs.own.Making.{rep_key, LeavesMean, MayFillRep, IsRepFilled}
@@ -56,13 +56,13 @@ module _ (w : Walked) (field rep : ℕ) where
         begun = may.make.begun;
         free = free_keys old may.make.free leaves;
         distinct = apart_keys leaves may.distinct;
-        each = all_with (λ (a : At). leaf_at leaves a.comp a.sub ≡ Some a) (λ (a : At). IsFault w a.leaf → ⊥) (MayHold w field rep (last_name old)) holds leaves found may.no_faults;
+        each = all_with (λ (a : At). leaf_at leaves a.comp a.sub ≡ Some a) (λ (a : At). NoFaultOf w (alternatives a)) (MayHold w field rep (last_name old)) holds leaves found may.no_faults;
       }
     where
       found : AllByRecursion (λ (a : At). leaf_at leaves a.comp a.sub ≡ Some a) leaves
       found = found_each place (λ (p : LeafPlace) (a : At). a.comp == p.comp && a.sub == p.sub) (λ a. and_of (a.comp == a.comp) (a.sub == a.sub) (own_number a.comp) (own_number a.sub)) same_place leaves may.distinct
 
-      holds : (a : At) → leaf_at leaves a.comp a.sub ≡ Some a → (IsFault w a.leaf → ⊥) → MayHold w field rep (last_name old) a
+      holds : (a : At) → leaf_at leaves a.comp a.sub ≡ Some a → (NoFaultOf w (alternatives a)) → MayHold w field rep (last_name old) a
       holds a e no_fault = record { entry = λ text means some. may.make.entry (a.comp, a.sub) text (subst (λ o. AtMeans w o text) (sym e) means) some; no_fault = no_fault }
 
   some_key : (leaves : List At) (k : List ℕ) → Among k (map (key_of field rep) leaves) → ((p : ℕ × ℕ) → k ≡ rep_key field rep p → ⊥) → ⊥
@@ -97,5 +97,5 @@ module _ (w : Walked) (field rep : ℕ) where
           (ap (λ o. unwrap_or o []) (filled.elsewhere (rep_key field rep (c, s)) (not_there leaves c s e) ∙ may.make.free (c, s)))
       by c s (Some a) e =
           subst (λ o. AtMeans w o (unwrap_or (texts.get (last_texts new) (rep_key field rep (c, s))) [])) (sym e)
-          (subst (λ k. LeafMeans w a.leaf (unwrap_or (texts.get (last_texts new) k) [])) (same_key c s a e)
-          (found_all (λ (b : At). b.comp == c && b.sub == s) (λ (b : At). LeafMeans w b.leaf (unwrap_or (texts.get (last_texts new) (key_of field rep b)) [])) leaves a e filled.each))
+          (subst (λ k. FirstText w (alternatives a) (unwrap_or (texts.get (last_texts new) k) [])) (same_key c s a e)
+          (found_all (λ (b : At). b.comp == c && b.sub == s) (λ (b : At). FirstText w (alternatives b) (unwrap_or (texts.get (last_texts new) (key_of field rep b)) [])) leaves a e filled.each))

@@ -6,8 +6,8 @@ use Rattle.std.specs.FinMap as texts
 use Rattle.gw_er7.specs.Message.{Texts, SegmentValue}
 use Rattle.gw_er7.specs.Building.{with_last}
 use Rattle.gw_maplang.specs.Among.{Among}
-use Rattle.gw_resolve.specs.Resolved.{At}
-use Rattle.gw_interp.specs.Meaning.{Walked, LeafMeans}
+use Rattle.gw_resolve.specs.Resolved.{At, alternatives}
+use Rattle.gw_interp.specs.Meaning.{Walked, FirstText}
 use Rattle.gw_interp.specs.own.Putting.{last_name, last_texts}
 use Rattle.gw_interp.specs.own.Filling.{key_of, MayHold, IsHeld, MayFill, AreFilled}
 use Rattle.gw_interp.proofs.Fills.{same_last}
@@ -58,7 +58,7 @@ module _ (w : Walked) (field rep : ℕ) where
       ap (λ o. unwrap_or o []) (filled.elsewhere (key_of field rep a) may.distinct.0) ∙ held.put.here in
       record {
         others = filled.others ∙ ap (with_last (at_last (last_texts new))) held.put.others ∙ twice (last_texts mid) (last_texts new) old;
-        each = (subst (LeafMeans w a.leaf) (sym text) held.means, filled.each);
+        each = (subst (FirstText w (alternatives a)) (sym text) held.means, filled.each);
         elsewhere = λ key apart. filled.elsewhere key (λ h. apart (inr h)) ∙ held.put.elsewhere key (λ e. apart (inl e));
         keeps = λ h. filled.keeps (held.put.keeps h);
       }

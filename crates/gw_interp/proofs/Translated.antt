@@ -53,10 +53,10 @@ module _ (c : CheckedValue) (is : IsChecked c) (lawful : Lawful (map_value c.map
         (subst (λ f. F m (scope (record { message = m; number = None; tree = t } ∷ [])) f items) nodes_are
         (subst (λ w. F (message_of w) (scope w) nodes items) root_is h))
 
-    pub may_begin : (old : List SegmentValue) → old ≡ [] → MayBegin old (names_given (scope walked) nodes items)
+    pub may_begin : (old : List SegmentValue) → old ≡ [] → MayBegin old (names_given (message_of walked) (scope walked) nodes items)
     may_begin old none =
-        subst (λ o. MayBegin o (names_given (scope walked) nodes items)) (sym none)
-        (as_seen (λ n os f i. MayBegin [] (names_given os f i)) (are_names source target (resolved_map c) allows m t fits tree_is))
+        subst (λ o. MayBegin o (names_given (message_of walked) (scope walked) nodes items)) (sym none)
+        (as_seen (λ n os f i. MayBegin [] (names_given n os f i)) (are_names source target (resolved_map c) allows m t fits tree_is))
 
     pub may_give : MayGive (message_of walked) (scope walked) nodes items
     may_give = as_seen MayGive (ready source target (resolved_map c) allows m t message fits tree_is)

@@ -33,7 +33,7 @@ weight_segments s = 2 + steps_of (option_map place s.place)
 
 abbrev pub weight_part : Part → ℕ
 weight_part (OneSegment nodes item) = 0
-weight_part (Level nodes items) = weight_all items.now
+weight_part (Level nodes items condition) = weight_all items.now
 
 pub lighter_group : (i : Item) (g : GroupItem) (is : List Item) → i ≡ Group g → is ≡ g.items.items → weight_one i ≡ 2 + length g.place.steps.items + weight_all is
 lighter_group i g is same items =
@@ -49,8 +49,8 @@ lighter_flat i f is same items =
 
 weight_more : (i : Item) (rest : Items) → weight (with_item [] i rest) ≡ weight_one i + weight rest
 weight_more (Segment s) rest = omega arith
-weight_more (Group' line j from shape row) rest = omega arith
-weight_more (Flat' line from shape row) rest = omega arith
+weight_more (Group' line j from asked shape row) rest = omega arith
+weight_more (Flat' line from asked shape row) rest = omega arith
 
 pub not_heavier : (items : List Item) (k : ℕ) (i : Item) → k < length items → i ≡ get_or items k i → weight_one i ≤ weight_all items
 not_heavier [] k i low at = absurd (omega (arith, low))

@@ -1,16 +1,17 @@
 -- What a map makes of a message: equations for the parts of the target and for the text at each of their places.
-use Rattle.std.specs.Prelude.{◌≡◌, ℕ, ◌<◌, ◌&&◌, nat_le, take, ◌⊎◌, Bool, true, false, List, [], ◌∷◌, length, Option, Some, None, if◌then◌else◌, bytes_eq}
+use Rattle.std.specs.Prelude.{◌≡◌, ℕ, ◌<◌, ◌==◌, ◌&&◌, nat_le, min, take, map, filter, ◌⊎◌, Bool, true, false, List, [], ◌∷◌, length, Option, Some, None, if◌then◌else◌, bytes_eq}
 use Rattle.std.specs.List.{list_all, list_any}
 use Rattle.gw_lines.specs.Spelled.{is_digit}
-use Rattle.gw_er7.specs.Message.{Texts, text_of, SegmentValue}
+use Rattle.gw_er7.specs.Message.{Texts, text_of, SegmentValue, first_number}
 use Rattle.gw_er7.specs.Presence.{RepAt}
+use Rattle.std.specs.FinMap.{keys}
 use Rattle.gw_profile.specs.Shapes.{Forest, ProfileValue}
 use Rattle.gw_validate.specs.Breaches.{is_null, Counted}
 use Rattle.gw_validate.specs.Cuts.{Cut}
 use Rattle.gw_validate.specs.Trees.{Tree}
 use Rattle.gw_maplang.specs.Shapes.{Rows, Condition}
 use Rattle.gw_resolve.specs.Places.{Place, child, nodes_of_child, name_of}
-use Rattle.gw_resolve.specs.Resolved.{Reference, Source, of_field, of_current, Leaf, const, copied, looked_up, dated, At, leaf_at, Making, copy, first, repeat, build, Rule, rule_of, Items, no_items, segment_item, group_item, flat_item, Resolved}
+use Rattle.gw_resolve.specs.Resolved.{Reference, FieldCondition, Source, of_field, of_current, Leaf, const, copied, looked_up, dated, Alternative, At, alternatives, leaf_at, Making, copy, first, repeat, build, Rule, rule_of, Items, no_items, segment_item, group_item, flat_item, Resolved}
 use Rattle.gw_leaves.specs.Leaves.{given}
 use Rattle.gw_interp.specs.Occurrences as occurrences
 use Rattle.gw_interp.specs.Occurrences.{Occurrence, at_place, texts_at}
@@ -66,9 +67,14 @@ LeafMeans w (copied source) text = SourceMeans w source text
 LeafMeans w (looked_up table source) text = (from : List ℕ) × SourceMeans w source from × (look_up table from ≡ Some text)
 LeafMeans w (dated digits source) text = (from : List ℕ) × SourceMeans w source from × (text ≡ first_digits digits from)
 
+-- the first text that one of these leaves gives, absent where none does; "" is a text
+abbrev pub FirstText : Walked → List Alternative → List ℕ → Type 0
+FirstText w [] text = text ≡ []
+FirstText w (o ∷ os) text = (LeafMeans w o.leaf text × (0 < length text)) ⊎ (LeafMeans w o.leaf [] × FirstText w os text)
+
 abbrev pub AtMeans : Walked → Option At → List ℕ → Type 0
 AtMeans w None text = text ≡ []
-AtMeans w (Some a) text = LeafMeans w a.leaf text
+AtMeans w (Some a) text = FirstText w (alternatives a) text
 
 -- ---- repetitions
 
@@ -112,6 +118,39 @@ abbrev pub RuleMeans : Walked → Option Rule → ℕ → ℕ → ℕ → List �
 RuleMeans w None rep comp sub text = text ≡ []
 RuleMeans w (Some r) rep comp sub text = MakingMeans w r.making rep comp sub text
 
+-- ---- conditions on occurrences
+
+-- the number of the repetition, of a place
+abbrev pub second_number : List ℕ → ℕ
+second_number [] = 0
+second_number (field ∷ key) = first_number key
+
+-- the repetitions in which texts of a field stand, one for each text
+abbrev pub reps_of : Texts → ℕ → List ℕ
+reps_of m field = map second_number (filter (λ key. first_number key == field) (keys m))
+
+abbrev pub least_of : ℕ → List ℕ → ℕ
+least_of rep [] = rep
+least_of rep (other ∷ reps) = min rep (least_of other reps)
+
+-- the text of a subcomponent in the least of these repetitions
+abbrev pub text_in_least : Texts → ℕ → ℕ → ℕ → List ℕ → List ℕ
+text_in_least m field comp sub [] = []
+text_in_least m field comp sub (rep ∷ reps) = text_of m field (least_of rep reps) comp sub
+
+-- the same in the first present repetition
+abbrev pub first_text : Texts → ℕ → ℕ → ℕ → List ℕ
+first_text m field comp sub = text_in_least m field comp sub (reps_of m field)
+
+-- the condition holds, where these occurrences are walked
+abbrev pub meets : List SegmentValue → List Occurrence → FieldCondition → Bool
+meets m scope c = is_one c.condition.values (first_text (texts_at m scope c.from.place) c.from.field c.condition.place.comp c.condition.place.sub)
+
+-- of these occurrences those within which it holds
+abbrev pub chosen : List SegmentValue → List Occurrence → Option FieldCondition → List Occurrence → List Occurrence
+chosen m scope None found = found
+chosen m scope (Some c) found = filter (λ o. meets m (o ∷ scope) c) found
+
 -- ---- segments and groups
 
 -- a segment of this name whose texts are those of the rules
@@ -135,23 +174,24 @@ walked m scope = record { message = m; scope = scope; current = λ comp sub. [] 
 
 -- Image says which segments the rules of a name can give
 module _ (Image : Walked → List ℕ → List Rule → SegmentValue → Type 0) where
-  -- a segment for each occurrence at the place, or one where no place is said
-  abbrev pub SegmentsBy : List SegmentValue → List Occurrence → List ℕ → List Rule → Option Place → List SegmentValue → Type 0
-  SegmentsBy m scope name rules None list = IsOne (Image (walked m scope) name rules) list
-  SegmentsBy m scope name rules (Some place) list = ForEach (λ o. IsOne (Image (walked m (o ∷ scope)) name rules)) (at_place scope place) list
+  -- a segment for each occurrence at the place that is chosen, or one where no place is said
+  abbrev pub SegmentsBy : List SegmentValue → List Occurrence → List ℕ → List Rule → Option FieldCondition → Option Place → List SegmentValue → Type 0
+  SegmentsBy m scope name rules condition None list = IsOne (Image (walked m scope) name rules) list
+  SegmentsBy m scope name rules condition (Some place) list =
+      ForEach (λ o. IsOne (Image (walked m (o ∷ scope)) name rules)) (chosen m scope condition (at_place scope place)) list
 
   -- what the items give, one after the other, where the target's nodes of their level are these
   abbrev pub GiveBy : List SegmentValue → List Occurrence → Forest → Items → List SegmentValue → Type 0
   GiveBy m scope target no_items list = list ≡ []
   GiveBy m scope target (segment_item s rest) list =
-      Cut (SegmentsBy m scope (name_of (child target s.child)) s.rules s.place) (GiveBy m scope target rest) list
+      Cut (SegmentsBy m scope (name_of (child target s.child)) s.rules s.condition s.place) (GiveBy m scope target rest) list
   GiveBy m scope target (group_item g items rest) list =
-      Cut (ForEach (λ o. GiveBy m (o ∷ scope) (nodes_of_child target g.child) items) (at_place scope g.place)) (GiveBy m scope target rest) list
+      Cut (ForEach (λ o. GiveBy m (o ∷ scope) (nodes_of_child target g.child) items) (chosen m scope g.condition (at_place scope g.place))) (GiveBy m scope target rest) list
   GiveBy m scope target (flat_item f items rest) list =
-      Cut (ForEach (λ o. GiveBy m (o ∷ scope) target items) (at_place scope f.place)) (GiveBy m scope target rest) list
+      Cut (ForEach (λ o. GiveBy m (o ∷ scope) target items) (chosen m scope f.condition (at_place scope f.place))) (GiveBy m scope target rest) list
 
 -- with the texts of the rules
-abbrev pub Segments : List SegmentValue → List Occurrence → List ℕ → List Rule → Option Place → List SegmentValue → Type 0
+abbrev pub Segments : List SegmentValue → List Occurrence → List ℕ → List Rule → Option FieldCondition → Option Place → List SegmentValue → Type 0
 Segments = SegmentsBy IsImage
 
 abbrev pub Give : List SegmentValue → List Occurrence → Forest → Items → List SegmentValue → Type 0

@@ -7,7 +7,7 @@ ghost use Rattle.gw_interp.specs.own.Putting.{last_name, last_texts};
 ghost use Rattle.gw_interp.specs.own.Filling.{message_of, read_by, key_of, MayHold, IsHeld, MayFill, AreFilled};
 ghost use Rattle.gw_interp.specs.own.Making.{MayFillRep, IsRepFilled};
 
-use crate::lookup::leaf_text;
+use crate::lookup::place_text;
 use crate::putting::put_text;
 use crate::reading::Reading;
 use gw_er7::{Builder, Place};
@@ -15,7 +15,7 @@ use gw_maplang::Map;
 use gw_resolve::At;
 use std::alloc::AllocError;
 
-// Puts the text of a leaf at its place.
+// Puts the text of a place there.
 fn put_leaf<'a>(
     rows: &'a Map,
     reading: &Reading<'_, 'a>,
@@ -30,7 +30,7 @@ fn put_leaf<'a>(
     requires holds { MayHold (read_by reading.now) field rep (last_name builder.old) (at_leaf rows.now.tables leaf.now) }
     ensures { OnOk result (IsHeld (read_by reading.now) field rep (at_leaf rows.now.tables leaf.now) builder.old builder.new) }
 {
-    match leaf_text(rows, reading, &leaf.leaf) {
+    match place_text(rows, reading, leaf) {
         None => Ok(()),
         Some(text) => {
             let place = Place {
@@ -44,7 +44,7 @@ fn put_leaf<'a>(
     }
 }
 
-// Puts the texts of leaves at their places in a repetition of a field of the last segment.
+// Puts the texts of places in a repetition of a field of the last segment.
 fn put_leaves<'a>(
     rows: &'a Map,
     reading: &Reading<'_, 'a>,

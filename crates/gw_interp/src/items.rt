@@ -5,31 +5,41 @@ ghost use Rattle.gw_profile.specs.Shapes.{nothing};
 ghost use Rattle.gw_profile.specs.Seen.{forest, node_forest};
 ghost use Rattle.gw_resolve.specs.Places.{child, name_of};
 ghost use Rattle.gw_resolve.specs.Resolved.{no_items};
-ghost use Rattle.gw_resolve.specs.Seen.{with_item, all_items};
+ghost use Rattle.gw_resolve.specs.Seen.{some_condition, with_item, all_items};
 ghost use Rattle.gw_interp.specs.Occurrences.{below};
 ghost use Rattle.gw_interp.specs.own.Borrowed.{occurrence, scope as walked_in, AreOf};
 ghost use Rattle.gw_interp.specs.own.Filling.{message_of};
 ghost use Rattle.gw_interp.specs.own.Ready.{MayBegin, Adds};
 ghost use Rattle.gw_interp.specs.own.Parts.{items_names, MayItems, ItemsGive, found_at, node_name, segments_names};
-ghost use Rattle.gw_interp.specs.own.Parts.{MaySegment, GivesSegment, MaySegmentsOf, SegmentsOf, part_names, MayPart, PartGives};
+ghost use Rattle.gw_interp.specs.own.Parts.{MaySegment, GivesSegment, MaySegmentsOf, SegmentsOf, condition_of, chosen_names, MayChosen, ChosenGives};
 ghost use Rattle.gw_interp.specs.own.Parts.{names_within, MayWithin, GivesWithin, each_names, MayEach, EachGives};
 
 use crate::places::walked_at;
+use crate::reading::is_met;
 use crate::segments::put_segment;
 use gw_er7::Builder;
 use gw_maplang::Map;
 use gw_profile::Node;
-use gw_resolve::{Item, ScopePath, SegmentItem, nodes_within};
+use gw_resolve::{FieldCondition, Item, ScopePath, SegmentItem, nodes_within};
 use gw_validate::Occ;
 use std::alloc::AllocError;
 
-/// What is made within each occurrence at a place. The nodes are those of the target's level.
+/// What is made within each occurrence at a place that meets the condition, if there is one. The nodes are those of the target's level.
 #[derive(Drop)]
 pub(crate) enum Part<'a> {
     /// The segment of an item.
     OneSegment(&'a [Node], &'a SegmentItem),
     /// What several items make.
-    Level(&'a [Node], &'a [Item]),
+    Level(&'a [Node], &'a [Item], &'a Option<FieldCondition>),
+}
+
+fn condition_of<'p>(part: &'p Part<'_>) -> &'p Option<FieldCondition>
+    ensures { some_condition result.now ≡ condition_of part.now }
+{
+    match part {
+        Part::OneSegment(_, item) => &item.condition,
+        Part::Level(_, _, condition) => condition,
+    }
 }
 
 // The name of a node, if it is a segment.
@@ -73,7 +83,7 @@ fn put_one<'a>(
     put_segment(rows, scope, builder, name, &item.rules)
 }
 
-// Makes a part within the occurrences of `scope`.
+// Makes a part within the occurrences of `scope`, where its condition holds.
 #[cycle(items)]
 fn put_part<'a>(
     rows: &'a Map,
@@ -83,15 +93,18 @@ fn put_part<'a>(
 ) -> Result<(), AllocError>
     requires of { AreOf (message_of scope.old.items) scope.old.items }
     requires lawful { IsBegun builder.old }
-    requires begin { MayBegin builder.old (part_names rows.now.tables part.now (walked_in scope.old.items)) }
-    requires may { MayPart rows.now.tables part.now (message_of scope.old.items) (walked_in scope.old.items) }
+    requires begin { MayBegin builder.old (chosen_names rows.now.tables part.now (message_of scope.old.items) (walked_in scope.old.items)) }
+    requires may { MayChosen rows.now.tables part.now (message_of scope.old.items) (walked_in scope.old.items) }
     ensures kept { scope.new.items ≡ scope.old.items }
-    ensures adds { OnOk result (Adds (PartGives rows.now.tables part.now (message_of scope.old.items) (walked_in scope.old.items)) builder.old builder.new) }
+    ensures adds { OnOk result (Adds (ChosenGives rows.now.tables part.now (message_of scope.old.items) (walked_in scope.old.items)) builder.old builder.new) }
     ensures lawful { OnOk result (IsBegun builder.new) }
 {
+    if !is_met(scope, condition_of(part)) {
+        return Ok(());
+    }
     match part {
         Part::OneSegment(nodes, item) => put_one(rows, scope, builder, nodes, item),
-        Part::Level(nodes, items) => put_items(rows, scope, builder, nodes, items),
+        Part::Level(nodes, items, _) => put_items(rows, scope, builder, nodes, items),
     }
 }
 
@@ -223,11 +236,15 @@ fn put_item<'a>(
     match item {
         Item::Segment(item) => put_segments(rows, scope, builder, nodes, item),
         Item::Group(group) => {
-            let part = Part::Level(nodes_within(nodes, group.child), &group.items);
+            let part = Part::Level(
+                nodes_within(nodes, group.child),
+                &group.items,
+                &group.condition,
+            );
             put_each(rows, scope, builder, &part, &group.place)
         }
         Item::Flat(flat) => {
-            let part = Part::Level(nodes, &flat.items);
+            let part = Part::Level(nodes, &flat.items, &flat.condition);
             put_each(rows, scope, builder, &part, &flat.place)
         }
     }

@@ -1,5 +1,5 @@
 //! The texts of leaves.
-ghost use Rattle.std.specs.Prelude.{◌≡◌, List, unwrap_or};
+ghost use Rattle.std.specs.Prelude.{◌≡◌, List, map, unwrap_or};
 ghost use Rattle.std.specs.List.{list_all};
 ghost use Rattle.gw_lines.specs.Spelled.{is_digit};
 ghost use Rattle.gw_er7.specs.Message.{SegmentValue};
@@ -7,15 +7,16 @@ ghost use Rattle.gw_maplang.specs.Shapes.{table_of};
 ghost use Rattle.gw_maplang.specs.Seen.{now};
 ghost use Rattle.gw_resolve.specs.Naming.{no_rows};
 ghost use Rattle.gw_leaves.specs.Leaves.{given};
-ghost use Rattle.gw_resolve.specs.Seen.{leaf as seen_leaf};
+ghost use Rattle.gw_resolve.specs.Resolved.{alternatives};
+ghost use Rattle.gw_resolve.specs.Seen.{leaf as seen_leaf, alternative, at_leaf};
 ghost use Rattle.gw_validate.specs.Breaches.{is_null};
 ghost use Rattle.gw_interp.specs.own.Borrowed.{AreOf};
 ghost use Rattle.gw_interp.specs.Meaning.{look_up, first_digits};
-ghost use Rattle.gw_interp.specs.own.Sourced.{walks, LeafGives};
+ghost use Rattle.gw_interp.specs.own.Sourced.{walks, LeafGives, settles, FirstGives};
 
 use crate::reading::{Reading, source_text};
 use gw_maplang::{Map, Table};
-use gw_resolve::ResolvedLeaf;
+use gw_resolve::{Alternative, At, ResolvedLeaf};
 
 fn is_null(text: &[u8]) -> bool
     ensures { result ≡ is_null text.now }
@@ -65,8 +66,8 @@ fn first_digits(digits: usize, text: &[u8]) -> &[u8]
     &[]
 }
 
-/// The text of a leaf, empty where it is absent. `None` if its table has nothing for what is read. It takes no memory.
-pub(crate) fn leaf_text<'a>(
+// The text of a leaf, empty where it is absent. `None` if its table has nothing for what is read.
+fn leaf_text<'a>(
     map: &'a Map,
     reading: &Reading<'_, 'a>,
     leaf: &'a ResolvedLeaf,
@@ -81,4 +82,47 @@ pub(crate) fn leaf_text<'a>(
             Some(first_digits(*digits as usize, source_text(reading, source)))
         }
     }
+}
+
+// Whether the leaves behind aren't asked: a leaf gave a text, or its table has nothing for what is read.
+fn settles(given: Option<&[u8]>) -> bool
+    ensures { result ≡ settles (now given.entry) }
+{
+    match given {
+        None => true,
+        Some([]) => false,
+        Some([_, ..]) => true,
+    }
+}
+
+// The first text that one of these leaves gives, empty where none does. `None` if the table of one has nothing for what is read.
+fn first_text<'a>(
+    rows: &'a Map,
+    reading: &Reading<'_, 'a>,
+    others: &'a [Alternative],
+) -> Option<&'a [u8]>
+    ensures { (m : List SegmentValue) → AreOf m reading.now.scope.now → FirstGives (walks m reading.now) (map (alternative rows.now.tables) others.now) (now result) }
+{
+    for other in others {
+        let given = leaf_text(rows, reading, &other.leaf);
+        if settles(given) {
+            return given;
+        }
+    }
+    Some(&[])
+}
+
+/// The same of all leaves of a place. It takes no memory.
+pub(crate) fn place_text<'a>(
+    rows: &'a Map,
+    reading: &Reading<'_, 'a>,
+    at: &'a At,
+) -> Option<&'a [u8]>
+    ensures { (m : List SegmentValue) → AreOf m reading.now.scope.now → FirstGives (walks m reading.now) (alternatives (at_leaf rows.now.tables at.now)) (now result) }
+{
+    let own = leaf_text(rows, reading, &at.leaf);
+    if settles(own) {
+        return own;
+    }
+    first_text(rows, reading, &at.others)
 }

@@ -4,17 +4,17 @@ ghost use Rattle.std.specs.List.{list_any};
 ghost use Rattle.gw_er7.specs.Message.{SegmentValue, text_of};
 ghost use Rattle.gw_er7.specs.Presence.{RepAt, IsLast};
 ghost use Rattle.gw_maplang.specs.Seen.{items_all, condition as seen_condition, condition_some};
-ghost use Rattle.gw_resolve.specs.Seen.{place as seen_place, source as seen_source};
+ghost use Rattle.gw_resolve.specs.Seen.{place as seen_place, source as seen_source, condition as field_condition, some_condition};
 ghost use Rattle.gw_interp.specs.Occurrences.{texts_at};
 ghost use Rattle.gw_interp.specs.own.Borrowed.{scope as walked, AreOf};
 ghost use Rattle.gw_interp.specs.Meaning as meaning;
 ghost use Rattle.gw_interp.specs.Meaning.{InFirst, IsChosen, SourceMeans};
-ghost use Rattle.gw_interp.specs.own.Sourced.{texts_of, IsFirstOne, IsFirstRep, IsNextOne, current_texts, walks};
+ghost use Rattle.gw_interp.specs.own.Sourced.{texts_of, IsFirstOne, IsFirstRep, IsNextOne, current_texts, walks, is_met};
 
 use crate::places::first_at_place;
 use gw_er7::Segment;
 use gw_maplang::{Condition, LeafPlace};
-use gw_resolve::{ScopePath, Source};
+use gw_resolve::{FieldCondition, ScopePath, Source};
 use gw_validate::Occ;
 
 /// A repetition of a field.
@@ -155,11 +155,14 @@ pub(crate) fn first_chosen(
 
 // The text of a subcomponent in the first present repetition of a field; empty if there is none.
 fn first_text<'a>(segment: &Option<Segment<'a>>, field: u32, at: LeafPlace) -> &'a [u8]
-    ensures { InFirst (texts_of segment.now) field at.comp at.sub result.now }
+    ensures means { InFirst (texts_of segment.now) field at.comp at.sub result.now }
+    ensures value { result.now ≡ meaning.first_text (texts_of segment.now) field at.comp at.sub }
 {
     let Some(segment) = segment else {
         return &[];
     };
+    // Called for its clause, which says what every segment keeps.
+    let _values = segment.value_count();
     let Some(rep) = first_rep(segment, field as usize) else {
         return &[];
     };
@@ -186,5 +189,23 @@ pub(crate) fn source_text<'a>(reading: &Reading<'_, 'a>, source: &Source) -> &'a
             first_text(&segment, from.field, *at)
         }
         Source::OfCurrent(at) => current_text(&reading.current, *at),
+    }
+}
+
+fn meets_within(scope: &[Occ<'_>], asked: &FieldCondition) -> bool
+    ensures { (m : List SegmentValue) → AreOf m scope.now → result ≡ meaning.meets m (walked scope.now) (field_condition asked.now) }
+{
+    let segment = segment_at(scope, &asked.from.place);
+    let text = first_text(&segment, asked.from.field, asked.condition.place);
+    is_one(&asked.condition.values, text)
+}
+
+/// Whether a condition holds within the innermost occurrence, or there is none. It takes no memory.
+pub(crate) fn is_met(scope: &[Occ<'_>], condition: &Option<FieldCondition>) -> bool
+    ensures { (m : List SegmentValue) → AreOf m scope.now → result ≡ is_met m (walked scope.now) (some_condition condition.now) }
+{
+    match condition {
+        None => true,
+        Some(asked) => meets_within(scope, asked),
     }
 }

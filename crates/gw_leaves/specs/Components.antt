@@ -6,9 +6,9 @@ use Rattle.gw_profile.specs.Lengths.{len_count}
 use Rattle.gw_profile.specs.Value.{table_of}
 use Rattle.gw_validate.specs.Breaches.{is_required, is_forbidden, is_null}
 use Rattle.gw_maplang.specs.Shapes.{Rows}
-use Rattle.gw_resolve.specs.Resolved.{Reference, Source, Leaf, const, copied, looked_up, dated, At, Making, copy, first, repeat, build, Rule}
+use Rattle.gw_resolve.specs.Resolved.{Reference, Source, Leaf, const, copied, looked_up, dated, Alternative, At, alternatives, Making, copy, first, repeat, build, Rule}
 use Rattle.gw_resolve.specs.Failures.{Mark, Failure, at_line, fails}
-use Rattle.gw_leaves.specs.Leaves.{Sources, Shape, at_field, comp_presence, sub_presence, sub_values, source_shape, leaf_shape, is_always, is_absent, has_no_row, may_be_unlisted, may_be_long}
+use Rattle.gw_leaves.specs.Leaves.{Sources, Shape, at_field, comp_presence, sub_presence, sub_values, source_shape, leaf_shape, at_presence, is_always, is_absent, has_no_row, may_be_unlisted, may_be_long}
 use Rattle.gw_profile.specs.Numbered.{comp_of, sub_of}
 use Rattle.gw_leaves.specs.Counts.{walking}
 
@@ -22,6 +22,9 @@ comp_in mark number = record mark { comp = number }
 
 abbrev pub sub_in : Mark → ℕ → Mark
 sub_in mark number = record mark { sub = number }
+
+abbrev pub line_in : Mark → ℕ → Mark
+line_in mark line = record mark { line = line }
 
 -- the component and subcomponent of a leaf in its field
 abbrev pub leaf_mark : ℕ → At → Mark
@@ -59,17 +62,17 @@ copied_field s to mark from target = flat_map (copied_comp s.profile to mark (at
 
 -- ---- fields made of leaves
 
--- some leaf of the component is always there, or there is no text but in it
+-- some place of the component always has a text, or there is no text but in it
 abbrev pub is_comp_sure : Sources → List At → ℕ → Bool
 is_comp_sure s leaves comp =
-    list_any (λ a. a.comp == comp && is_always (leaf_shape s a.leaf).presence) leaves
-    || list_all (λ a. a.comp == comp || is_absent (leaf_shape s a.leaf).presence) leaves
+    list_any (λ a. a.comp == comp && is_always (at_presence s a)) leaves
+    || list_all (λ a. a.comp == comp || is_absent (at_presence s a)) leaves
 
--- its leaf is always there, or the component has no other text
+-- its place always has a text, or the component has no other text
 abbrev pub is_sub_sure : Sources → List At → ℕ → ℕ → Bool
 is_sub_sure s leaves comp sub =
-    list_any (λ a. a.comp == comp && a.sub == sub && is_always (leaf_shape s a.leaf).presence) leaves
-    || list_all (λ a. not (a.comp == comp) || a.sub == sub || is_absent (leaf_shape s a.leaf).presence) leaves
+    list_any (λ a. a.comp == comp && a.sub == sub && is_always (at_presence s a)) leaves
+    || list_all (λ a. not (a.comp == comp) || a.sub == sub || is_absent (at_presence s a)) leaves
 
 abbrev pub made_sub : Sources → Mark → List At → ℕ → SubValue → List Failure
 made_sub s mark leaves comp sub = fails 5 (sub_in mark sub.number) (is_required sub.usage && not (is_sub_sure s leaves comp sub.number))
@@ -95,15 +98,19 @@ leaf_failures s to mark (copied source) sub = value_failures to mark (leaf_shape
 leaf_failures s to mark (looked_up table source) sub = value_failures to mark (leaf_shape s (looked_up table source)) sub
 leaf_failures s to mark (dated digits source) sub = value_failures to mark (leaf_shape s (dated digits source)) sub
 
--- a leaf at a place that the target lists
-abbrev pub placed : Sources → ProfileValue → Mark → Leaf → Option SubValue → List Failure
-placed s to mark leaf None = []
-placed s to mark leaf (Some sub) = leaf_failures s to mark leaf sub
+-- one of the leaves of a place, at its line
+abbrev pub other_failures : Sources → ProfileValue → Mark → SubValue → Alternative → List Failure
+other_failures s to mark sub o = leaf_failures s to (line_in mark o.line) o.leaf sub
+
+-- the leaves of a place that the target lists
+abbrev pub placed : Sources → ProfileValue → Mark → List Alternative → Option SubValue → List Failure
+placed s to mark all None = []
+placed s to mark all (Some sub) = flat_map (other_failures s to mark sub) all
 
 abbrev pub made_leaf : Sources → ProfileValue → FieldValue → At → List Failure
 made_leaf s to target a =
-    fails 11 (leaf_mark target.number a) ((is_forbidden_comp (comp_of (Some target) a.comp) || is_forbidden_sub (sub_of (comp_of (Some target) a.comp) a.sub)) && not (is_absent (leaf_shape s a.leaf).presence))
-    ++ placed s to (leaf_mark target.number a) a.leaf (sub_of (comp_of (Some target) a.comp) a.sub)
+    fails 11 (leaf_mark target.number a) ((is_forbidden_comp (comp_of (Some target) a.comp) || is_forbidden_sub (sub_of (comp_of (Some target) a.comp) a.sub)) && not (is_absent (at_presence s a)))
+    ++ placed s to (leaf_mark target.number a) (alternatives a) (sub_of (comp_of (Some target) a.comp) a.sub)
 
 abbrev pub made_field : Sources → ProfileValue → Mark → List At → FieldValue → List Failure
 made_field s to mark leaves target =
@@ -120,11 +127,11 @@ making_failures s to mark (build leaves) target = made_field s to mark leaves ta
 -- ---- lookups
 
 -- without a value for texts that have no row, each text of the source needs one
-abbrev pub lookup_failures : Sources → ℕ → At → List Failure
-lookup_failures s field a = go a.leaf
+abbrev pub leaf_lookups : Sources → Mark → Leaf → List Failure
+leaf_lookups s mark leaf = go leaf
   where
     unrowed : Rows → Source → Option (List ℕ) → List Failure
-    unrowed table source None = fails 10 (leaf_mark field a) (has_no_row table (source_shape s source).values)
+    unrowed table source None = fails 10 mark (has_no_row table (source_shape s source).values)
     unrowed table source (Some text) = []
 
     go : Leaf → List Failure
@@ -132,6 +139,12 @@ lookup_failures s field a = go a.leaf
     go (copied source) = []
     go (looked_up table source) = unrowed table source table.other
     go (dated digits source) = []
+
+abbrev pub other_lookups : Sources → Mark → Alternative → List Failure
+other_lookups s mark o = leaf_lookups s (line_in mark o.line) o.leaf
+
+abbrev pub lookup_failures : Sources → ℕ → At → List Failure
+lookup_failures s field a = flat_map (other_lookups s (leaf_mark field a)) (alternatives a)
 
 abbrev pub rule_lookups : Sources → Rule → List Failure
 rule_lookups s r = go r.making

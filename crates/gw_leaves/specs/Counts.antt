@@ -2,11 +2,10 @@
 use Rattle.std.specs.Prelude.{Bool, if◌then◌else◌, List, Option, Some, None}
 use Rattle.std.specs.List.{list_any, list_all}
 use Rattle.gw_profile.specs.Shapes.{FieldValue}
-use Rattle.gw_maplang.specs.Shapes.{Condition}
 use Rattle.gw_resolve.specs.Intervals.{Interval, never, once, any_number, of_card, is_sure, is_never, at_most_one}
 use Rattle.gw_resolve.specs.Places.{Known, known}
 use Rattle.gw_resolve.specs.Resolved.{Reference, At, Making, copy, first, repeat, build, Rule}
-use Rattle.gw_leaves.specs.Leaves.{Sources, at_field, leaf_shape, is_always, is_absent}
+use Rattle.gw_leaves.specs.Leaves.{Sources, at_field, at_presence, is_always, is_absent}
 
 abbrev pub repetitions : Option FieldValue → Interval
 repetitions None = any_number
@@ -21,17 +20,17 @@ reference_count k f =
 abbrev pub field_count : Sources → Reference → Interval
 field_count s from = reference_count (known s.scope from.place) (at_field s from)
 
--- with a condition maybe none: no repetition need have such a text
-abbrev pub chosen_count : Option Condition → Interval → Interval
+-- with a condition maybe none: none need meet it
+abbrev pub chosen_count : {C : Type 0} → Option C → Interval → Interval
 chosen_count None count = count
 chosen_count (Some c) count = record { least = 0; greatest = count.greatest }
 
--- some leaf is always there; none ever is
+-- some place always has a text; none ever has
 abbrev pub some_always : Sources → List At → Bool
-some_always s leaves = list_any (λ a. is_always (leaf_shape s a.leaf).presence) leaves
+some_always s leaves = list_any (λ a. is_always (at_presence s a)) leaves
 
 abbrev pub all_absent : Sources → List At → Bool
-all_absent s leaves = list_all (λ a. is_absent (leaf_shape s a.leaf).presence) leaves
+all_absent s leaves = list_all (λ a. is_absent (at_presence s a)) leaves
 
 -- below `repeat` the field that is walked
 abbrev pub walking : Sources → Reference → Sources

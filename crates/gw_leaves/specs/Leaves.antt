@@ -16,7 +16,7 @@ use Rattle.gw_leaves.specs.declared.shape.Presence.TheVariants.{Always, Maybe, N
 use Rattle.gw_resolve.specs.Intervals.{is_sure, is_never}
 use Rattle.gw_resolve.specs.Places.{Element, Known, known}
 use Rattle.gw_maplang.specs.Shapes.{Row, Rows, second_of}
-use Rattle.gw_resolve.specs.Resolved.{Source, of_field, of_current, Reference, Leaf, const, copied, looked_up, dated}
+use Rattle.gw_resolve.specs.Resolved.{Source, of_field, of_current, Reference, Leaf, const, copied, looked_up, dated, Alternative, At, alternatives}
 
 -- ---- presence
 
@@ -153,6 +153,23 @@ leaf_shape s (looked_up table source) =
     record { presence = (source_shape s source).presence; values = listed (given_values table (source_shape s source).values) }
 leaf_shape s (dated digits source) =
     record { presence = perhaps (source_shape s source).presence; values = any Octets (Some digits) }
+
+-- of the first of two texts that is there
+abbrev pub either : Presence → Presence → Presence
+either Always b = Always
+either Maybe Always = Always
+either Maybe Maybe = Maybe
+either Maybe Never = Maybe
+either Never b = b
+
+-- of the first text that one of these leaves gives
+abbrev pub first_presence : Sources → List Alternative → Presence
+first_presence s [] = Never
+first_presence s (o ∷ os) = either (leaf_shape s o.leaf).presence (first_presence s os)
+
+-- of a place: always there where one of its leaves is, never where none ever is
+abbrev pub at_presence : Sources → At → Presence
+at_presence s a = first_presence s (alternatives a)
 
 -- ---- what a target subcomponent asks of them
 

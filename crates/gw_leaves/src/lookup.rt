@@ -2,17 +2,62 @@
 ghost use Rattle.std.specs.Prelude.{flat_map, OnOk};
 ghost use Rattle.gw_leaves.specs.Components as spec;
 ghost use Rattle.gw_resolve.specs.Noted.{Notes};
-ghost use Rattle.gw_leaves.specs.own.Held.{leaves_value};
+ghost use Rattle.gw_leaves.specs.own.Held.{leaves_value, others_value};
 ghost use Rattle.gw_leaves.specs.Uses.{sources_value, map_tables, rules_value};
-ghost use Rattle.gw_resolve.specs.Seen.{at_leaf, rule as seen_rule};
+ghost use Rattle.gw_resolve.specs.Seen.{alternative, at_leaf, leaf as seen_leaf, mark as seen_mark, rule as seen_rule};
 
 use crate::count::walking;
 use crate::given::is_unrowed;
 use crate::leaf::source_sub;
 use crate::mark::leaf_mark;
 use crate::sources::Sources;
-use gw_resolve::{At, Failure, Making, ResolvedLeaf, Rule, note};
+use gw_resolve::{Alternative, At, Failure, FailureSite, Making, ResolvedLeaf, Rule, note};
 use std::alloc::AllocError;
+
+fn check_leaf(
+    found: &mut Vec<Failure>,
+    sources: Sources<'_, '_, '_, '_, '_>,
+    mark: FailureSite,
+    leaf: &ResolvedLeaf,
+) -> Result<(), AllocError>
+    ensures { OnOk result (Notes found.old found.new (spec.leaf_lookups (sources_value sources.entry) (seen_mark mark) (seen_leaf (map_tables sources.entry) leaf.now))) }
+{
+    let ResolvedLeaf::LookedUp(name, source) = leaf else {
+        return Ok(());
+    };
+    let is_unrowed = is_unrowed(sources.context, name, source_sub(sources, source));
+    note(found, 10, mark, is_unrowed)
+}
+
+fn check_other(
+    found: &mut Vec<Failure>,
+    sources: Sources<'_, '_, '_, '_, '_>,
+    mark: FailureSite,
+    other: &Alternative,
+) -> Result<(), AllocError>
+    ensures { OnOk result (Notes found.old found.new (spec.other_lookups (sources_value sources.entry) (seen_mark mark) (alternative (map_tables sources.entry) other.now))) }
+{
+    let mark = FailureSite {
+        line: other.line,
+        ..mark
+    };
+    check_leaf(found, sources, mark, &other.leaf)
+}
+
+fn check_others(
+    found: &mut Vec<Failure>,
+    sources: Sources<'_, '_, '_, '_, '_>,
+    mark: FailureSite,
+    others: &[Alternative],
+) -> Result<(), AllocError>
+    ensures { OnOk result
+        (Notes found.old found.new (flat_map (spec.other_lookups (sources_value sources.entry) (seen_mark mark)) (others_value sources.entry others.now))) }
+{
+    for other in others {
+        check_other(found, sources, mark, other)?;
+    }
+    Ok(())
+}
 
 fn check_lookup(
     found: &mut Vec<Failure>,
@@ -22,11 +67,9 @@ fn check_lookup(
 ) -> Result<(), AllocError>
     ensures { OnOk result (Notes found.old found.new (spec.lookup_failures (sources_value sources.entry) field (at_leaf (map_tables sources.entry) at.now))) }
 {
-    let ResolvedLeaf::LookedUp(name, source) = &at.leaf else {
-        return Ok(());
-    };
-    let is_unrowed = is_unrowed(sources.context, name, source_sub(sources, source));
-    note(found, 10, leaf_mark(field, at), is_unrowed)
+    let mark = leaf_mark(field, at);
+    check_leaf(found, sources, mark, &at.leaf)?;
+    check_others(found, sources, mark, &at.others)
 }
 
 fn check_leaves(

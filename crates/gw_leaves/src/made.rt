@@ -4,23 +4,23 @@ ghost use Rattle.gw_validate.specs.Breaches.{is_null};
 ghost use Rattle.gw_leaves.specs.Components as spec;
 ghost use Rattle.gw_leaves.specs.Leaves as leaves_spec;
 ghost use Rattle.gw_resolve.specs.Noted.{Notes};
-ghost use Rattle.gw_leaves.specs.own.Held.{leaves_value};
+ghost use Rattle.gw_leaves.specs.own.Held.{leaves_value, others_value};
 ghost use Rattle.gw_profile.specs.Numbered.{some_comp, some_sub};
 ghost use Rattle.gw_leaves.specs.Uses.{map_tables};
-ghost use Rattle.gw_resolve.specs.Seen.{at_leaf};
+ghost use Rattle.gw_resolve.specs.Seen.{alternative, at_leaf};
 ghost use Rattle.gw_leaves.specs.own.Seen as seen;
 
 use crate::elements::{Filling, check_comps};
 use crate::given::{LeafSource, table_of};
 use crate::leaf::{source_sub, table_named};
 use crate::mark::leaf_mark;
-use crate::presence::{is_absent, leaf_presence, source_presence};
+use crate::presence::{at_presence, is_absent, source_presence};
 use crate::shape::{Presence, Values};
 use crate::sources::Sources;
 use crate::texts::{is_long, is_missing, may_be_long};
 use crate::values::{check_values, is_forbidden};
 use gw_profile::{CompShape, Count, FieldShape, Profile, SubShape, comp_of, sub_of};
-use gw_resolve::{At, Failure, FailureSite, ResolvedLeaf, Source, note};
+use gw_resolve::{Alternative, At, Failure, FailureSite, ResolvedLeaf, Source, note};
 use std::alloc::AllocError;
 
 // ---- what the leaves give
@@ -117,6 +117,37 @@ fn check_leaf(
     }
 }
 
+fn check_other(
+    found: &mut Vec<Failure>,
+    sources: Sources<'_, '_, '_, '_, '_>,
+    mark: FailureSite,
+    other: &Alternative,
+    sub: &SubShape,
+) -> Result<(), AllocError>
+    ensures { OnOk result (Notes found.old found.new (seen.other_failures sources.entry mark sub.now (alternative (map_tables sources.entry) other.now))) }
+{
+    let mark = FailureSite {
+        line: other.line,
+        ..mark
+    };
+    check_leaf(found, sources, mark, &other.leaf, sub)
+}
+
+fn check_others(
+    found: &mut Vec<Failure>,
+    sources: Sources<'_, '_, '_, '_, '_>,
+    mark: FailureSite,
+    others: &[Alternative],
+    sub: &SubShape,
+) -> Result<(), AllocError>
+    ensures { OnOk result (Notes found.old found.new (flat_map (seen.other_failures sources.entry mark sub.now) (others_value sources.entry others.now))) }
+{
+    for other in others {
+        check_other(found, sources, mark, other, sub)?;
+    }
+    Ok(())
+}
+
 fn is_forbidden_comp(comp: Option<&CompShape>) -> bool
     ensures { result ≡ spec.is_forbidden_comp (some_comp comp.entry) }
 {
@@ -145,13 +176,16 @@ fn check_at(
 {
     let comp = comp_of(Some(field), at.place.comp);
     let sub = sub_of(comp, at.place.sub);
-    let presence = leaf_presence(sources, &at.leaf);
+    let presence = at_presence(sources, at);
     let mark = leaf_mark(field.number, at);
     let barred = is_forbidden_comp(comp) || is_forbidden_sub(sub);
     note(found, 11, mark, barred && !is_absent(presence))?;
     match sub {
         None => Ok(()),
-        Some(sub) => check_leaf(found, sources, mark, &at.leaf, sub),
+        Some(sub) => {
+            check_leaf(found, sources, mark, &at.leaf, sub)?;
+            check_others(found, sources, mark, &at.others, sub)
+        }
     }
 }
 

@@ -30,6 +30,25 @@ fn add<'a>(
     Ok(())
 }
 
+// What a leaf reads, against this subcomponent.
+fn add_leaf<'a>(
+    comparisons: &mut Comparisons<'a>,
+    sources: Sources<'_, '_, '_, 'a, '_>,
+    leaf: &'a ResolvedLeaf,
+    sub: Option<&'a SubShape>,
+) -> Result<(), AllocError> {
+    let (rows, source) = match leaf {
+        ResolvedLeaf::Const(_) | ResolvedLeaf::Dated(_, _) => return Ok(()),
+        ResolvedLeaf::Copied(source) => (None, source),
+        ResolvedLeaf::LookedUp(name, source) => (Some(name.as_slice()), source),
+    };
+    let given = LeafSource {
+        rows,
+        sub: source_sub(sources, source),
+    };
+    add(comparisons, given, sub)
+}
+
 // What these leaves read, each against the subcomponent at its place.
 fn add_leaves<'a>(
     comparisons: &mut Comparisons<'a>,
@@ -38,17 +57,11 @@ fn add_leaves<'a>(
     leaves: &'a [At],
 ) -> Result<(), AllocError> {
     for at in leaves {
-        let (rows, source) = match &at.leaf {
-            ResolvedLeaf::Const(_) | ResolvedLeaf::Dated(_, _) => continue,
-            ResolvedLeaf::Copied(source) => (None, source),
-            ResolvedLeaf::LookedUp(name, source) => (Some(name.as_slice()), source),
-        };
-        let given = LeafSource {
-            rows,
-            sub: source_sub(sources, source),
-        };
         let sub = sub_of(comp_of(field, at.place.comp), at.place.sub);
-        add(comparisons, given, sub)?;
+        add_leaf(comparisons, sources, &at.leaf, sub)?;
+        for other in &at.others {
+            add_leaf(comparisons, sources, &other.leaf, sub)?;
+        }
     }
     Ok(())
 }

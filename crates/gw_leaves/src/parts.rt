@@ -4,9 +4,9 @@ ghost use Rattle.gw_leaves.specs.Leaves as leaves_spec;
 ghost use Rattle.gw_leaves.specs.Uses.{sources_value, map_tables};
 ghost use Rattle.gw_leaves.specs.own.Held.{leaves_value};
 ghost use Rattle.gw_leaves.specs.own.Parts as spec;
-ghost use Rattle.gw_resolve.specs.Seen.{leaf as seen_leaf};
+ghost use Rattle.gw_resolve.specs.Seen.{at_leaf};
 
-use crate::presence::{is_absent, is_always, leaf_presence};
+use crate::presence::{at_presence, is_absent, is_always};
 use crate::sources::Sources;
 use gw_resolve::At;
 
@@ -18,37 +18,37 @@ pub(crate) enum Part {
     Sub(u32, u32),
 }
 
-// Whether the leaf is in the part, and always there.
+// Whether the place is in the part, and always has a text.
 fn is_sure_in(sources: Sources<'_, '_, '_, '_, '_>, part: Part, at: &At) -> bool
     ensures { result ≡ spec.is_sure_in part at.now.place.comp at.now.place.sub
-        (leaves_spec.is_always (leaves_spec.leaf_shape (sources_value sources.entry) (seen_leaf (map_tables sources.entry) at.now.leaf)).presence) }
+        (leaves_spec.is_always (leaves_spec.at_presence (sources_value sources.entry) (at_leaf (map_tables sources.entry) at.now))) }
 {
     let (comp, sub) = (at.place.comp, at.place.sub);
     match part {
-        Part::Field => is_always(leaf_presence(sources, &at.leaf)),
-        Part::Comp(part) => comp == part && is_always(leaf_presence(sources, &at.leaf)),
+        Part::Field => is_always(at_presence(sources, at)),
+        Part::Comp(part) => comp == part && is_always(at_presence(sources, at)),
         Part::Sub(part, inner) => {
-            comp == part && sub == inner && is_always(leaf_presence(sources, &at.leaf))
+            comp == part && sub == inner && is_always(at_presence(sources, at))
         }
     }
 }
 
-// Whether the leaf isn't beside the part, or is never there.
+// Whether the place isn't beside the part, or never has a text.
 fn is_not_beside(sources: Sources<'_, '_, '_, '_, '_>, part: Part, at: &At) -> bool
     ensures { result ≡ spec.is_not_beside part at.now.place.comp at.now.place.sub
-        (leaves_spec.is_absent (leaves_spec.leaf_shape (sources_value sources.entry) (seen_leaf (map_tables sources.entry) at.now.leaf)).presence) }
+        (leaves_spec.is_absent (leaves_spec.at_presence (sources_value sources.entry) (at_leaf (map_tables sources.entry) at.now))) }
 {
     let (comp, sub) = (at.place.comp, at.place.sub);
     match part {
-        Part::Field => is_absent(leaf_presence(sources, &at.leaf)),
-        Part::Comp(part) => comp == part || is_absent(leaf_presence(sources, &at.leaf)),
+        Part::Field => is_absent(at_presence(sources, at)),
+        Part::Comp(part) => comp == part || is_absent(at_presence(sources, at)),
         Part::Sub(part, inner) => {
-            comp != part || sub == inner || is_absent(leaf_presence(sources, &at.leaf))
+            comp != part || sub == inner || is_absent(at_presence(sources, at))
         }
     }
 }
 
-/// Whether some leaf of the part is always there.
+/// Whether some place of the part always has a text.
 pub(crate) fn some_sure(sources: Sources<'_, '_, '_, '_, '_>, part: Part, leaves: &[At]) -> bool
     ensures { result ≡ spec.some_sure (sources_value sources.entry) part (leaves_value sources.entry leaves.now) }
 {
@@ -60,7 +60,7 @@ pub(crate) fn some_sure(sources: Sources<'_, '_, '_, '_, '_>, part: Part, leaves
     false
 }
 
-/// Whether no leaf beside the part ever is; of all of a field, whether none is at all.
+/// Whether no place beside the part ever has one; of all of a field, whether none has one at all.
 pub(crate) fn none_beside(sources: Sources<'_, '_, '_, '_, '_>, part: Part, leaves: &[At]) -> bool
     ensures { result ≡ spec.none_beside (sources_value sources.entry) part (leaves_value sources.entry leaves.now) }
 {
@@ -72,7 +72,7 @@ pub(crate) fn none_beside(sources: Sources<'_, '_, '_, '_, '_>, part: Part, leav
     true
 }
 
-/// Whether the part has a text where what it is a part of has one: some leaf of the part is always there, or none beside it ever is.
+/// Whether the part has a text where what it is a part of has one: some place of the part always has a text, or none beside it ever has.
 pub(crate) fn is_sure(sources: Sources<'_, '_, '_, '_, '_>, part: Part, leaves: &[At]) -> bool
     ensures { result ≡ (spec.some_sure (sources_value sources.entry) part (leaves_value sources.entry leaves.now)
         || spec.none_beside (sources_value sources.entry) part (leaves_value sources.entry leaves.now)) }

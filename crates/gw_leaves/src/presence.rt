@@ -2,17 +2,17 @@
 ghost use Rattle.std.specs.Prelude.{◌≡◌, ◌&&◌, nat_le, if◌then◌else◌};
 ghost use Rattle.gw_resolve.specs.Intervals.{is_sure};
 ghost use Rattle.gw_leaves.specs.Leaves as spec;
-ghost use Rattle.gw_leaves.specs.own.Held.{known_value};
+ghost use Rattle.gw_leaves.specs.own.Held.{known_value, others_value};
 ghost use Rattle.gw_profile.specs.Numbered.{some_field, some_comp, some_sub};
 ghost use Rattle.gw_leaves.specs.Uses.{sources_value, map_tables};
-ghost use Rattle.gw_resolve.specs.Seen.{interval, reference, source as seen_source, leaf as seen_leaf};
+ghost use Rattle.gw_resolve.specs.Seen.{interval, reference, source as seen_source, leaf as seen_leaf, at_leaf};
 ghost use Rattle.gw_leaves.specs.declared.shape.Presence.TheVariants as presences;
 
 use crate::known::{Known, at_field, segment_at};
 use crate::shape::Presence;
 use crate::sources::Sources;
 use gw_profile::{Card, CompShape, FieldShape, SubShape, Usage, comp_of, field_of, sub_of};
-use gw_resolve::{Interval, Reference, ResolvedLeaf, Source};
+use gw_resolve::{Alternative, At, Interval, Reference, ResolvedLeaf, Source};
 
 fn by_usage(usage: Option<Usage>) -> Presence
     ensures { result ≡ spec.by_usage usage }
@@ -142,8 +142,8 @@ fn perhaps(presence: Presence) -> Presence
     }
 }
 
-/// Of the text of a leaf.
-pub(crate) fn leaf_presence(sources: Sources<'_, '_, '_, '_, '_>, leaf: &ResolvedLeaf) -> Presence
+// Of the text of a leaf.
+fn leaf_presence(sources: Sources<'_, '_, '_, '_, '_>, leaf: &ResolvedLeaf) -> Presence
     ensures { result ≡ (spec.leaf_shape (sources_value sources.entry) (seen_leaf (map_tables sources.entry) leaf.now)).presence }
 {
     match leaf {
@@ -152,4 +152,37 @@ pub(crate) fn leaf_presence(sources: Sources<'_, '_, '_, '_, '_>, leaf: &Resolve
         ResolvedLeaf::LookedUp(_, source) => source_presence(sources, source),
         ResolvedLeaf::Dated(_, source) => perhaps(source_presence(sources, source)),
     }
+}
+
+// Of the first of two texts that is there.
+fn either(one: Presence, other: Presence) -> Presence
+    ensures { result ≡ spec.either one other }
+{
+    match (one, other) {
+        (Presence::Always, _) => Presence::Always,
+        (Presence::Never, other) => other,
+        (Presence::Maybe, Presence::Always) => Presence::Always,
+        (Presence::Maybe, _) => Presence::Maybe,
+    }
+}
+
+// Of the first text that one of these leaves gives.
+fn others_presence(sources: Sources<'_, '_, '_, '_, '_>, others: &[Alternative]) -> Presence
+    ensures { result ≡ spec.first_presence (sources_value sources.entry) (others_value sources.entry others.now) }
+{
+    let mut presence = Presence::Never;
+    for other in others {
+        presence = either(presence, leaf_presence(sources, &other.leaf));
+    }
+    presence
+}
+
+/// Of the text of a place.
+pub(crate) fn at_presence(sources: Sources<'_, '_, '_, '_, '_>, at: &At) -> Presence
+    ensures { result ≡ spec.at_presence (sources_value sources.entry) (at_leaf (map_tables sources.entry) at.now) }
+{
+    either(
+        leaf_presence(sources, &at.leaf),
+        others_presence(sources, &at.others),
+    )
 }

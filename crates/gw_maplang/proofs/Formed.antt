@@ -7,17 +7,17 @@ use Rattle.gw_lines.specs.Values.{is_value}
 use Rattle.gw_profile.proofs.Facts.{both, neither, not_false, no_clash, le_is}
 use Rattle.gw_maplang.specs.declared.rule.LeafPlace.{LeafPlace}
 use Rattle.gw_maplang.specs.Among.{Among, Distinct}
-use Rattle.gw_maplang.specs.Shapes.{Path, Field, Current, Leaf, Const, Copy, Lookup, Date, LeafValue, Condition, Making, Copies, Firsts, Repeats, Builds, RuleValue, Items, nothing}
+use Rattle.gw_maplang.specs.Shapes.{Field, Current, Leaf, Const, Copy, Lookup, Date, Alternative, LeafValue, Condition, FieldCondition, Walk, Making, Copies, Firsts, Repeats, Builds, RuleValue, Items, nothing}
 use Rattle.gw_maplang.specs.Columns.{WideRow, WideTable, behind_first, is_known}
-use Rattle.gw_maplang.specs.Lawful.{Lawful, LawfulLeaf, LawfulLeafValue, LawfulLeaves, LawfulCondition, LawfulMaking, LawfulItems, LawfulDrop, LawfulPath, places, rule_fields}
-use Rattle.gw_maplang.specs.Line.{Line, Begins, Language, Table, Rows, Else, Segment, Makes, At, Each, End, Drops}
-use Rattle.gw_maplang.specs.Fault.{begun, at_last, with_row, with_other, wide_below, wide_tables, wide_names, wide_firsts, is_second, last_table, in_table, is_flat, OpenSegment, OpenRule, open_segment, open_rule, opened, with_field, with_place, depth, hollow, is_stray, is_early, is_unknown, is_bad, own_leaf, condition_of, is_hasty, is_bad_condition, is_misplaced, is_misplaced_leaf, is_made, is_placed, is_among, is_place}
-use Rattle.gw_maplang.specs.Value.{Parts, Levels, Head, head, head_of, no_parts, parts, own_or, with_leaves, rule_with, next, past, each_item, levels, drops}
+use Rattle.gw_maplang.specs.Lawful.{Lawful, LawfulLeaf, LawfulOthers, LawfulLeafValue, LawfulLeaves, LawfulCondition, LawfulFieldCondition, LawfulWalk, LawfulMaking, LawfulItems, LawfulDrop, places, rule_fields}
+use Rattle.gw_maplang.specs.Line.{Line, Begins, Language, Table, Rows, Else, Segment, Makes, At, Or, Each, End, Drops}
+use Rattle.gw_maplang.specs.Fault.{begun, at_last, with_row, with_other, wide_below, wide_tables, wide_names, wide_firsts, is_second, last_table, in_table, is_flat, OpenSegment, OpenRule, open_segment, open_rule, opened, with_field, with_place, depth, hollow, is_stray, is_early, is_unknown, is_bad, own_leaf, has_leaf, is_led, is_repeated, condition_of, asked_of, condition_in, is_hasty, is_bad_condition, is_misplaced, is_misplaced_leaf, is_made, is_placed, is_among, is_place}
+use Rattle.gw_maplang.specs.Value.{Parts, Levels, Head, head, head_of, no_parts, parts, own_or, with_others, with_leaves, rule_with, next, past, each_item, levels, drops}
 use Rattle.gw_maplang.specs.own.Widths.{LawfulWide, LawfulWides}
 use Rattle.gw_maplang.proofs.Among.{not_among, among_left, among_right, bytes_see, distinct_push, numbers_see, places_see}
 use Rattle.gw_maplang.proofs.ColumnNames.{all_names, all_columns_names, all_distinct, known_named, names_stay, names_push, names_second}
 use Rattle.gw_maplang.proofs.LawfulColumns.{Fits, fits_is, values_lawful, rows_stay, other_stays, narrow_stays, never_unsaid, widened_grows, all_lawful, are_named}
-use Rattle.gw_maplang.proofs.Shaped.{IsFew, ShapedLeaf, ShapedLeafValue, ShapedCondition, ShapedMaking, all_of}
+use Rattle.gw_maplang.proofs.Shaped.{IsFew, ShapedLeaf, ShapedLeafValue, ShapedCondition, ShapedFieldCondition, ShapedWalk, ShapedMaking, all_of}
 use Rattle.std.proofs.lemmas.Bool.Decides.{Decides-eqb}
 use mathlib.Core.List.{reverse_aux}
 use Rattle.gw_maplang.specs.Whole.{is_unclosed, map_of}
@@ -52,7 +52,8 @@ names_below (Else values) above x h = names_stay (is_second above) (with_other v
 names_below (Segment at label source) above x h = h
 names_below (Makes rule) above x h = h
 names_below (At leaf) above x h = h
-names_below (Each at label path) above x h = h
+names_below (Or other) above x h = h
+names_below (Each at label walk) above x h = h
 names_below End above x h = h
 names_below (Drops drop) above x h = h
 
@@ -79,6 +80,7 @@ pub record RulesBehind (names : List (List ℕ)) (s : OpenSegment) (rules : List
   pub apart : (x : ℕ) → Among x (rule_fields rules) → Among x s.fields → ⊥
 
 pub record PartsAre (names : List (List ℕ)) (above : List Line) (p : Parts) : Type 0 where
+  pub others : is_led above ≡ true → LawfulOthers names (is_repeated (open_rule above)) p.others
   pub leaves : IfSome (open_rule above) (λ o. LeavesBehind names o p.leaves)
   pub rules : IfSome (open_segment above) (λ s. RulesBehind names s p.rules)
 
@@ -91,11 +93,30 @@ no_rules names None = tt
 no_rules names (Some s) = record { each = tt; distinct = tt; apart = λ x h k. h }
 
 nothing_behind : (names : List (List ℕ)) (above : List Line) → PartsAre names above no_parts
-nothing_behind names above = record { leaves = no_leaves names (open_rule above); rules = no_rules names (open_segment above) }
+nothing_behind names above = record { others = λ led. tt; leaves = no_leaves names (open_rule above); rules = no_rules names (open_segment above) }
 
 condition_lawful : (o : Option Condition) → IfSome o ShapedCondition → is_bad_condition o ≡ false → IfSome o LawfulCondition
 condition_lawful None s b = tt
 condition_lawful (Some c) s b = record { place = s; each = all_of is_value c.values (not_false (list_all is_value c.values) b) }
+
+-- in the second language no leaf is one of a later language
+never_early : (second : Bool) (leaf : Leaf) → second ≡ true → is_early second leaf ≡ false
+never_early false leaf e = absurd (cc)
+never_early true (Const value) e = refl
+never_early true (Copy ref) e = refl
+never_early true (Lookup table ref) e = refl
+never_early true (Date digits ref) e = refl
+
+walk_lawful : (w : Walk) → ShapedWalk w → is_bad_condition (asked_of w.condition) ≡ false → LawfulWalk w
+walk_lawful w s b = record { path = s.0; condition = by w.condition s.1 b }
+  where
+    by : (o : Option FieldCondition) → IfSome o ShapedFieldCondition → is_bad_condition (asked_of o) ≡ false → IfSome o LawfulFieldCondition
+    by None s b = tt
+    by (Some c) s b = record { from = s.0; condition = condition_lawful (Some c.condition) s.1 b }
+
+source_lawful : (o : Option Walk) → IfSome o ShapedWalk → is_bad_condition (condition_in o) ≡ false → IfSome o LawfulWalk
+source_lawful None s b = tt
+source_lawful (Some w) s b = walk_lawful w s b
 
 -- tables that are known in the map, at some line
 module _ (names : List (List ℕ)) (second : Bool) (ts : List WideTable) (known : (x : List ℕ) → Among x (all_names second ts) → Among x names) where
@@ -111,6 +132,9 @@ module _ (names : List (List ℕ)) (second : Bool) (ts : List WideTable) (known 
   leaf_lawful repeated (Date digits (Field from place)) s a e u b = s
   leaf_lawful repeated (Date digits (Current place)) s a e u b = (s.0, (not_false repeated a, s.1))
 
+  no_others : (repeated : Bool) (l : LeafValue) → l.others ≡ [] → LawfulOthers names repeated l.others
+  no_others repeated l e = subst (LawfulOthers names repeated) (sym e) tt
+
   own_lawful : (leaves : List LeafValue) → AllByRecursion ShapedLeafValue leaves → list_any (λ l. is_stray false l.leaf || is_early second l.leaf) leaves ≡ false → list_any (λ l. is_unknown ts l.leaf) leaves ≡ false → list_any (λ l. is_bad l.leaf) leaves ≡ false → AllByRecursion (LawfulLeafValue names false) leaves
   own_lawful [] s a u b = tt
   own_lawful (l ∷ leaves) s a u b =
@@ -118,23 +142,25 @@ module _ (names : List (List ℕ)) (second : Bool) (ts : List WideTable) (known 
       let e = neither (is_stray false l.leaf) (is_early second l.leaf) x.0 in
       let y = neither (is_unknown ts l.leaf) _ u in
       let z = neither (is_bad l.leaf) _ b in
-      ((s.0.0, leaf_lawful false l.leaf s.0.1 e.0 e.1 y.0 z.0), own_lawful leaves s.1 x.1 y.1 z.1)
+      ((s.0.0, leaf_lawful false l.leaf s.0.1 e.0 e.1 y.0 z.0, no_others false l s.0.2), own_lawful leaves s.1 x.1 y.1 z.1)
 
-  making_lawful : (m : Making) (leaves : List LeafValue) → ShapedMaking m → list_any (λ l. is_stray false l.leaf || is_early second l.leaf) (own_leaf m) ≡ false → list_any (λ l. is_unknown ts l.leaf) (own_leaf m) ≡ false → list_any (λ l. is_bad l.leaf) (own_leaf m) ≡ false
-      → is_bad_condition (condition_of m) ≡ false → IfSome (opened m) (λ o. LeavesBehind names o leaves) → LawfulMaking names (with_leaves m leaves)
-  making_lawful (Copies from) leaves s a u b v h = s
-  making_lawful (Firsts from c) leaves s a u b v h = (s.0, condition_lawful c s.1 v)
-  making_lawful (Repeats from c own) leaves s a u b v h =
-      (s.0, condition_lawful c s.1 v, subst (λ (o : List LeafValue). LawfulLeaves names true (own_or o leaves)) (sym s.2) (record { each = h.each; distinct = h.distinct }))
-  making_lawful (Builds []) leaves s a u b v h = record { each = h.each; distinct = h.distinct }
-  making_lawful (Builds (l ∷ own)) leaves s a u b v h = record { each = own_lawful (l ∷ own) s.0 a u b; distinct = s.1 }
+  making_lawful : (m : Making) (others : List Alternative) (leaves : List LeafValue) → ShapedMaking m → list_any (λ l. is_stray false l.leaf || is_early second l.leaf) (own_leaf m) ≡ false → list_any (λ l. is_unknown ts l.leaf) (own_leaf m) ≡ false → list_any (λ l. is_bad l.leaf) (own_leaf m) ≡ false
+      → is_bad_condition (condition_of m) ≡ false → (has_leaf (own_leaf m) ≡ true → LawfulOthers names (is_repeated (opened m)) others) → IfSome (opened m) (λ o. LeavesBehind names o leaves) → LawfulMaking names (with_leaves m others leaves)
+  making_lawful (Copies from) others leaves s a u b v k h = s
+  making_lawful (Firsts from c) others leaves s a u b v k h = (s.0, condition_lawful c s.1 v)
+  making_lawful (Repeats from c own) others leaves s a u b v k h =
+      (s.0, condition_lawful c s.1 v, subst (λ (o : List LeafValue). LawfulLeaves names true (own_or o others leaves)) (sym s.2) (record { each = h.each; distinct = h.distinct }))
+  making_lawful (Builds []) others leaves s a u b v k h = record { each = h.each; distinct = h.distinct }
+  making_lawful (Builds (l ∷ own)) others leaves s a u b v k h =
+      let o = own_lawful (l ∷ own) s.0 a u b in record { each = ((o.0.0, o.0.1, k refl), o.1); distinct = s.1 }
 
-  add_leaf : (o : Option OpenRule) (l : LeafValue) (leaves : List LeafValue) → ShapedLeafValue l → is_misplaced_leaf l.leaf o ≡ false → is_early second l.leaf ≡ false → is_unknown ts l.leaf ≡ false → is_bad l.leaf ≡ false → is_placed l.place o ≡ false
-      → IfSome (with_place l.place o) (λ o. LeavesBehind names o leaves) → IfSome o (λ o. LeavesBehind names o (l ∷ leaves))
-  add_leaf None l leaves s a e u b p h = tt
-  add_leaf (Some o) l leaves s a e u b p h =
+  add_leaf : (o : Option OpenRule) (l : LeafValue) (others : List Alternative) (leaves : List LeafValue) → ShapedLeafValue l → is_misplaced_leaf l.leaf o ≡ false → is_early second l.leaf ≡ false → is_unknown ts l.leaf ≡ false → is_bad l.leaf ≡ false → is_placed l.place o ≡ false
+      → LawfulOthers names (is_repeated (with_place l.place o)) others → IfSome (with_place l.place o) (λ o. LeavesBehind names o leaves)
+      → IfSome o (λ o. LeavesBehind names o (with_others l others ∷ leaves))
+  add_leaf None l others leaves s a e u b p k h = tt
+  add_leaf (Some o) l others leaves s a e u b p i h =
       record {
-        each = ((s.0, leaf_lawful o.repeated l.leaf s.1 a e u b), h.each);
+        each = ((s.0, leaf_lawful o.repeated l.leaf s.1 a e u b, i), h.each);
         distinct = ((λ k. h.apart l.place k (among_right o.places (l.place ∷ []) l.place (inl refl))), h.distinct);
         apart = λ x. elim [
           | inl i ↦ (λ k. not_among is_place places_see l.place o.places p (subst (λ y. Among y o.places) i k))
@@ -142,10 +168,13 @@ module _ (names : List (List ℕ)) (second : Bool) (ts : List WideTable) (known 
         ];
       }
 
-  add_rule : (o : Option OpenSegment) (r : RuleValue) (leaves : List LeafValue) (rules : List RuleValue) → r.field ≤ 999 → is_misplaced r.field o ≡ false → is_made r.field o ≡ false → LawfulMaking names (with_leaves r.making leaves)
-      → IfSome (with_field r.field o) (λ s. RulesBehind names s rules) → IfSome o (λ s. RulesBehind names s (rule_with r leaves ∷ rules))
-  add_rule None r leaves rules f m d k h = tt
-  add_rule (Some s) r leaves rules f m d k h =
+  add_other : (repeated : Bool) (o : Alternative) (others : List Alternative) → second ≡ true → ShapedLeaf o.leaf → is_stray repeated o.leaf ≡ false → is_unknown ts o.leaf ≡ false → is_bad o.leaf ≡ false → LawfulOthers names repeated others → LawfulOthers names repeated (o ∷ others)
+  add_other repeated o others t s a u b h = (leaf_lawful repeated o.leaf s a (never_early second o.leaf t) u b, h)
+
+  add_rule : (o : Option OpenSegment) (r : RuleValue) (others : List Alternative) (leaves : List LeafValue) (rules : List RuleValue) → r.field ≤ 999 → is_misplaced r.field o ≡ false → is_made r.field o ≡ false → LawfulMaking names (with_leaves r.making others leaves)
+      → IfSome (with_field r.field o) (λ s. RulesBehind names s rules) → IfSome o (λ s. RulesBehind names s (rule_with r others leaves ∷ rules))
+  add_rule None r others leaves rules f m d k h = tt
+  add_rule (Some s) r others leaves rules f m d k h =
       record {
         each = (((le_is s.least r.field (not_false (nat_le s.least r.field) m), f), k), h.each);
         distinct = ((λ a. h.apart r.field a (among_right s.fields (r.field ∷ []) r.field (inl refl))), h.distinct);
@@ -170,21 +199,34 @@ parts_lawful names above (Makes rule ∷ below) g =
     let d = neither (is_misplaced rule.field (open_segment above)) (is_hasty (is_second above) (condition_of rule.making)) c.0 in
     let b = neither (is_bad_condition (condition_of rule.making)) _ g.0.clear.1.1.0 in
     record {
+      others = λ led. tt;
       leaves = no_leaves names (open_rule above);
       rules =
-          add_rule names (is_second above) (wide_tables above) k (open_segment above) rule (parts below).leaves (parts below).rules g.0.shaped.0 d.0 g.0.clear.1.1.1.0
-          (making_lawful names (is_second above) (wide_tables above) k rule.making (parts below).leaves g.0.shaped.1 c.1 g.0.clear.1.0 b.1 b.0 i.leaves) i.rules;
+          add_rule names (is_second above) (wide_tables above) k (open_segment above) rule (parts below).others (parts below).leaves (parts below).rules g.0.shaped.0 d.0 g.0.clear.1.1.1.0
+          (making_lawful names (is_second above) (wide_tables above) k rule.making (parts below).others (parts below).leaves g.0.shaped.1 c.1 g.0.clear.1.0 b.1 b.0 i.others i.leaves) i.rules;
     }
 parts_lawful names above (At leaf ∷ below) g =
     let i = parts_lawful names (At leaf ∷ above) below g.1 in
     let c = neither (is_misplaced_leaf leaf.leaf (open_rule above)) (is_early (is_second above) leaf.leaf) g.0.clear.0 in
     record {
+      others = λ led. tt;
       leaves =
-          add_leaf names (is_second above) (wide_tables above) (known names above (At leaf ∷ below) g) (open_rule above) leaf (parts below).leaves g.0.shaped
-          c.0 c.1 g.0.clear.1.0 g.0.clear.1.1.0 g.0.clear.1.1.1.0 i.leaves;
+          add_leaf names (is_second above) (wide_tables above) (known names above (At leaf ∷ below) g) (open_rule above) leaf (parts below).others (parts below).leaves g.0.shaped
+          c.0 c.1 g.0.clear.1.0 g.0.clear.1.1.0 g.0.clear.1.1.1.0 (i.others refl) i.leaves;
       rules = i.rules;
     }
-parts_lawful names above (Each at label path ∷ below) g = nothing_behind names above
+parts_lawful names above (Or other ∷ below) g =
+    let i = parts_lawful names (Or other ∷ above) below g.1 in
+    let c = neither (not (is_second above) || not (is_led above)) (is_stray (is_repeated (open_rule above)) other.leaf) g.0.clear.0 in
+    let d = neither (not (is_second above)) (not (is_led above)) c.0 in
+    record {
+      others = λ led.
+          add_other names (is_second above) (wide_tables above) (known names above (Or other ∷ below) g) (is_repeated (open_rule above)) other (parts below).others
+          (not_false (is_second above) d.0) g.0.shaped c.1 g.0.clear.1.0 g.0.clear.1.1.0 (i.others refl);
+      leaves = i.leaves;
+      rules = i.rules;
+    }
+parts_lawful names above (Each at label walk ∷ below) g = nothing_behind names above
 parts_lawful names above (End ∷ below) g = nothing_behind names above
 parts_lawful names above (Drops drop ∷ below) g = nothing_behind names above
 
@@ -200,7 +242,8 @@ hollow_deep (Else values ∷ above) e = hollow_deep above e
 hollow_deep (Segment at label source ∷ above) e = absurd (cc)
 hollow_deep (Makes rule ∷ above) e = hollow_deep above e
 hollow_deep (At leaf ∷ above) e = hollow_deep above e
-hollow_deep (Each at label path ∷ above) e = omega arith
+hollow_deep (Or other ∷ above) e = hollow_deep above e
+hollow_deep (Each at label walk ∷ above) e = omega arith
 hollow_deep (End ∷ above) e = absurd (cc)
 hollow_deep (Drops drop ∷ above) e = hollow_deep above e
 
@@ -217,13 +260,13 @@ past_lawful : (names : List (List ℕ)) (behind : List Items) → AllByRecursion
 past_lawful names [] h = tt
 past_lawful names (items ∷ behind) h = h.1
 
-each_lawful : (names : List (List ℕ)) (at : ℕ) (label : Option (List ℕ)) (path : Path) (inner rest : Items) → IfSome label (λ name. is_name name ≡ true) → LawfulPath path → LawfulItems names inner → (is_flat label ≡ true → inner ≡ nothing → ⊥) → LawfulItems names rest → LawfulItems names (each_item at label path inner rest)
-each_lawful names at None path inner rest n p i f r = (record { path = p; some = f refl }, i, r)
-each_lawful names at (Some label) path inner rest n p i f r = (record { labelled = n; path = p }, i, r)
+each_lawful : (names : List (List ℕ)) (at : ℕ) (label : Option (List ℕ)) (walk : Walk) (inner rest : Items) → IfSome label (λ name. is_name name ≡ true) → LawfulWalk walk → LawfulItems names inner → (is_flat label ≡ true → inner ≡ nothing → ⊥) → LawfulItems names rest → LawfulItems names (each_item at label walk inner rest)
+each_lawful names at None walk inner rest n p i f r = (record { walk = p; some = f refl }, i, r)
+each_lawful names at (Some label) walk inner rest n p i f r = (record { labelled = n; walk = p }, i, r)
 
-each_some : (at : ℕ) (label : Option (List ℕ)) (path : Path) (inner rest : Items) → each_item at label path inner rest ≡ nothing → ⊥
-each_some at None path inner rest e = cc
-each_some at (Some label) path inner rest e = cc
+each_some : (at : ℕ) (label : Option (List ℕ)) (walk : Walk) (inner rest : Items) → each_item at label walk inner rest ≡ nothing → ⊥
+each_some at None walk inner rest e = cc
+each_some at (Some label) walk inner rest e = cc
 
 levels_lawful : (names : List (List ℕ)) (above below : List Line) → Goes names above below → LevelsAre names above (levels below)
 levels_lawful names above [] g = record { here = tt; filled = λ h e. let d = hollow_deep above h in let z : depth above ≡ 0 = g.0 in absurd (omega arith); behind = tt }
@@ -241,7 +284,7 @@ levels_lawful names above (Segment at label source ∷ below) g =
     let i = levels_lawful names (Segment at label source ∷ above) below g.1 in
     let p = parts_lawful names (Segment at label source ∷ above) below g.1 in
     record {
-      here = (record { labelled = g.0.shaped.0; source = g.0.shaped.1; each = p.rules.each; distinct = p.rules.distinct }, i.here);
+      here = (record { labelled = g.0.shaped.0; source = source_lawful source g.0.shaped.1 g.0.clear.1.0; each = p.rules.each; distinct = p.rules.distinct }, i.here);
       filled = λ h e. cc;
       behind = i.behind;
     }
@@ -249,11 +292,13 @@ levels_lawful names above (Makes rule ∷ below) g =
     let i = levels_lawful names (Makes rule ∷ above) below g.1 in record { here = i.here; filled = i.filled; behind = i.behind }
 levels_lawful names above (At leaf ∷ below) g =
     let i = levels_lawful names (At leaf ∷ above) below g.1 in record { here = i.here; filled = i.filled; behind = i.behind }
-levels_lawful names above (Each at label path ∷ below) g =
-    let i = levels_lawful names (Each at label path ∷ above) below g.1 in
+levels_lawful names above (Or other ∷ below) g =
+    let i = levels_lawful names (Or other ∷ above) below g.1 in record { here = i.here; filled = i.filled; behind = i.behind }
+levels_lawful names above (Each at label walk ∷ below) g =
+    let i = levels_lawful names (Each at label walk ∷ above) below g.1 in
     record {
-      here = each_lawful names at label path (levels below).here (next (levels below).behind) g.0.shaped.0 g.0.shaped.1 i.here i.filled (next_lawful names (levels below).behind i.behind);
-      filled = λ h e. each_some at label path (levels below).here (next (levels below).behind) e;
+      here = each_lawful names at label walk (levels below).here (next (levels below).behind) g.0.shaped.0 (walk_lawful walk g.0.shaped.1 g.0.clear.1.0) i.here i.filled (next_lawful names (levels below).behind i.behind);
+      filled = λ h e. each_some at label walk (levels below).here (next (levels below).behind) e;
       behind = past_lawful names (levels below).behind i.behind;
     }
 levels_lawful names above (End ∷ below) g =
@@ -273,7 +318,8 @@ drops_lawful names above (Else values ∷ below) g = drops_lawful names (Else va
 drops_lawful names above (Segment at label source ∷ below) g = drops_lawful names (Segment at label source ∷ above) below g.1
 drops_lawful names above (Makes rule ∷ below) g = drops_lawful names (Makes rule ∷ above) below g.1
 drops_lawful names above (At leaf ∷ below) g = drops_lawful names (At leaf ∷ above) below g.1
-drops_lawful names above (Each at label path ∷ below) g = drops_lawful names (Each at label path ∷ above) below g.1
+drops_lawful names above (Or other ∷ below) g = drops_lawful names (Or other ∷ above) below g.1
+drops_lawful names above (Each at label walk ∷ below) g = drops_lawful names (Each at label walk ∷ above) below g.1
 drops_lawful names above (End ∷ below) g = drops_lawful names (End ∷ above) below g.1
 drops_lawful names above (Drops drop ∷ below) g = (g.0.shaped, drops_lawful names (Drops drop ∷ above) below g.1)
 
@@ -293,7 +339,8 @@ head_lawful (Else values) k = absurd (no_clash k.clear.0)
 head_lawful (Segment at label source) k = absurd (no_clash k.clear.0)
 head_lawful (Makes rule) k = absurd (no_clash k.clear.0)
 head_lawful (At leaf) k = absurd (no_clash k.clear.0)
-head_lawful (Each at label path) k = absurd (no_clash k.clear.0)
+head_lawful (Or other) k = absurd (no_clash k.clear.0)
+head_lawful (Each at label walk) k = absurd (no_clash k.clear.0)
 head_lawful End k = absurd (no_clash k.clear.0)
 head_lawful (Drops drop) k = absurd (no_clash k.clear.0)
 
@@ -358,7 +405,8 @@ tables_step above (Else values) k h =
 tables_step above (Segment at label source) k h = h
 tables_step above (Makes rule) k h = h
 tables_step above (At leaf) k h = h
-tables_step above (Each at label path) k h = h
+tables_step above (Or other) k h = h
+tables_step above (Each at label walk) k h = h
 tables_step above End k h = h
 tables_step above (Drops drop) k h = h
 

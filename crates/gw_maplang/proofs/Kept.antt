@@ -2,7 +2,7 @@
 use Rattle.std.proofs.Common.{ℕ, List, subst}
 use Rattle.std.specs.Prelude.{IfSome}
 use Rattle.gw_profile.proofs.Facts.{lt_is}
-use Rattle.gw_maplang.specs.Line.{Line, Begins, Language, Table, Rows, Else, Segment, Makes, At, Each, End, Drops}
+use Rattle.gw_maplang.specs.Line.{Line, Begins, Language, Table, Rows, Else, Segment, Makes, At, Or, Each, End, Drops}
 use Rattle.gw_maplang.specs.Fault.{tests, wide_tables, open_segment, open_rule, depth}
 use Rattle.gw_lines.specs.Grammar.{Taken}
 use Rattle.gw_lines.proofs.Taken.{Clear, clear_of, taken_by}
@@ -34,7 +34,8 @@ new_table above line t = by line (taken_keeps above line t)
     by (Segment at label source) k = tt
     by (Makes rule) k = tt
     by (At leaf) k = tt
-    by (Each at label path) k = tt
+    by (Or other) k = tt
+    by (Each at label walk) k = tt
     by End k = tt
     by (Drops drop) k = tt
 
@@ -50,7 +51,8 @@ new_field above line t = by line (taken_keeps above line t)
     by (Segment at label source) k = tt
     by (Makes rule) k = k.clear.1.1.1.0
     by (At leaf) k = tt
-    by (Each at label path) k = tt
+    by (Or other) k = tt
+    by (Each at label walk) k = tt
     by End k = tt
     by (Drops drop) k = tt
 
@@ -66,7 +68,8 @@ new_place above line t = by line (taken_keeps above line t)
     by (Segment at label source) k = tt
     by (Makes rule) k = tt
     by (At leaf) k = k.clear.1.1.1.0
-    by (Each at label path) k = tt
+    by (Or other) k = tt
+    by (Each at label walk) k = tt
     by End k = tt
     by (Drops drop) k = tt
 
@@ -82,6 +85,7 @@ has_room above line t = by line (taken_keeps above line t)
     by (Segment at label source) k = tt
     by (Makes rule) k = tt
     by (At leaf) k = tt
-    by (Each at label path) k = lt_is 16 (depth above) k.clear.1.0
+    by (Or other) k = tt
+    by (Each at label walk) k = lt_is 16 (depth above) k.clear.1.1.0
     by End k = tt
     by (Drops drop) k = tt

@@ -16,11 +16,14 @@ use Rattle.gw_profile.proofs.Rows.{group_forest}
 use Rattle.gw_maplang.specs.declared.item.Item.{Item}
 use Rattle.gw_maplang.specs.Among.{Among, Distinct}
 use Rattle.gw_maplang.specs.Shapes.{Items, RuleValue, segment, group}
-use Rattle.gw_maplang.specs.Lawful.{Lawful, least_field, LawfulPath, LawfulRule, LawfulItems, rule_fields}
-use Rattle.gw_maplang.specs.Identity.{field_rules, copy_rule, same_items, identity, with_some, IsSame}
+use Rattle.gw_maplang.specs.Lawful.{Lawful, least_field, LawfulPath, LawfulWalk, LawfulRule, LawfulItems, rule_fields}
+use Rattle.gw_maplang.specs.Identity.{field_rules, copy_rule, walk_all, same_items, identity, with_some, IsSame}
 
 one_label : (label : List ℕ) → is_name label ≡ true → LawfulPath (label ∷ [])
 one_label label n = record { some = λ e. cc; each = (n, tt) }
+
+all_walked : (label : List ℕ) → is_name label ≡ true → LawfulWalk (walk_all label)
+all_walked label n = record { path = one_label label n; condition = tt }
 
 -- copies of fields whose numbers rise from low on
 record Copied (label : List ℕ) (low : ℕ) (rules : List RuleValue) : Type 0 where
@@ -84,13 +87,13 @@ items_lawful : (tables : List (List ℕ)) (f : Profile.Forest) → Formed.EachSe
 items_lawful tables Profile.nothing s g a = tt
 items_lawful tables (Profile.segment v rest) s g a = by (is_forbidden (Some v.usage)) (items_lawful tables rest s.1 g a.1)
   where
-    by : (b : Bool) → LawfulItems [] (same_items rest) → LawfulItems [] (if b then same_items rest else segment (record { line = 0; label = v.label; source = Some (v.label ∷ []); rules = field_rules v.label v.fields }) (same_items rest))
+    by : (b : Bool) → LawfulItems [] (same_items rest) → LawfulItems [] (if b then same_items rest else segment (record { line = 0; label = v.label; source = Some (walk_all v.label); rules = field_rules v.label v.fields }) (same_items rest))
     by true h = h
     by false h =
         let c = copied v.label (profile.least_field v.name) v.fields s.0.labelled a.0 s.0.rising in
-        (record { labelled = s.0.labelled; source = one_label v.label s.0.labelled; each = c.each; distinct = c.distinct }, h)
+        (record { labelled = s.0.labelled; source = all_walked v.label s.0.labelled; each = c.each; distinct = c.distinct }, h)
 items_lawful tables (Profile.group g nodes rest) s h a =
-    (record { labelled = h.0.labelled; path = one_label g.label h.0.labelled }, items_lawful tables nodes s.0 h.1 a.0, items_lawful tables rest s.1 h.2 a.1)
+    (record { labelled = h.0.labelled; walk = all_walked g.label h.0.labelled }, items_lawful tables nodes s.0 h.1 a.0, items_lawful tables rest s.1 h.2 a.1)
 
 pub identity_lawful : (p : Profile.ProfileValue) → Formed.WellFormed p → Lawful (identity p)
 identity_lawful p w =
@@ -107,9 +110,9 @@ identity_lawful p w =
 -- ---- a group of the program
 
 pub group_is_same : {E : Type 0} (result : Result (Option Item) E) (g : GroupNode) (node : Node) (label : List ℕ) (nodes : List Node) → node ≡ Group g → label ≡ g.label.items → nodes ≡ g.nodes.items
-    → IfOk result (λ item. (rest : Items) → with_some item rest ≡ group (record { line = 0; label = label; path = label ∷ [] }) (same_items (forest nodes)) rest) → IfOk result (λ item. IsSame item node)
+    → IfOk result (λ item. (rest : Items) → with_some item rest ≡ group (record { line = 0; label = label; walk = walk_all label }) (same_items (forest nodes)) rest) → IfOk result (λ item. IsSame item node)
 group_is_same (Err e) g node label nodes n l m h = tt
 group_is_same (Ok item) g node label nodes n l m h = λ rest.
     h (same_items rest)
-    ∙ (λ i. group (record { line = 0; label = l i; path = l i ∷ [] }) (same_items (forest (m i))) (same_items rest))
+    ∙ (λ i. group (record { line = 0; label = l i; walk = walk_all (l i) }) (same_items (forest (m i))) (same_items rest))
     ∙ ap same_items (sym (group_forest g rest)) ∙ ap (λ k. same_items (node_forest k rest)) (sym n)

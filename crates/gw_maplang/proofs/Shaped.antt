@@ -10,11 +10,12 @@ use Rattle.gw_lines.specs.Values.{bytes_of}
 use Rattle.gw_lines.specs.Parts.{first_word, name_at, number_at, behind, with_all}
 use Rattle.gw_profile.proofs.Facts.{both, le_is}
 use Rattle.gw_profile.proofs.Shaped.{any, gives, map_gives, chosen, either_gives, with_all_is, number_is, name_at_is, number_at_is}
+use Rattle.gw_maplang.specs.declared.rule.LeafPlace.{LeafPlace}
 use Rattle.gw_maplang.specs.Among.{Distinct}
 use Rattle.gw_maplang.specs.Columns.{behind_first, is_table_word}
-use Rattle.gw_maplang.specs.Shapes.{Path, FieldPath, Ref, Field, Current, Leaf, Const, Copy, Lookup, Date, LeafValue, Condition, Making, Copies, Firsts, Repeats, Builds}
+use Rattle.gw_maplang.specs.Shapes.{Path, FieldPath, Ref, Field, Current, Leaf, Const, Copy, Lookup, Date, LeafValue, Condition, FieldCondition, Walk, Making, Copies, Firsts, Repeats, Builds}
 use Rattle.gw_maplang.specs.Lawful.{LawfulPath, LawfulField, LawfulFieldPath, LawfulPlace, LawfulDrop, is_date_length, last_label, places}
-use Rattle.gw_maplang.specs.Line.{Line, Begins, Language, Table, Rows, Else, Segment, Makes, At, Each, End, Drops, is_slash, is_dash, path_of, field_of, field_path, sub_of, place_of, place_or_first, field_ref, ref_of, dropped_field, drop_of, constant, plain_word, plain_at, text_at, some_bytes, texts, most_columns, some_texts, all_texts, where_at, condition_form, condition_at, table_word, from_at, const_form, copy_form, lookup_form, date_length, date_from, date_form, leaf_of, leaf_form, own_leaves, map_form, language_form, table_form, row_form, else_form, source_behind, source_at, segment_form, made_from, chosen_from, copies_form, firsts_form, repeats_form, builds_form, at_form, each_form, group_form, drop_form, rule_form, keyword_form, form}
+use Rattle.gw_maplang.specs.Line.{Line, Begins, Language, Table, Rows, Else, Segment, Makes, At, Or, Each, End, Drops, is_slash, is_dash, path_of, field_of, field_path, sub_of, place_of, place_or_first, field_ref, ref_of, dropped_field, drop_of, constant, plain_word, plain_at, text_at, some_bytes, texts, most_columns, some_texts, all_texts, where_at, condition_form, condition_at, field_place, asked_at, field_condition_form, field_condition_at, walk_form, table_word, from_at, const_form, copy_form, lookup_form, date_length, date_from, date_form, leaf_of, leaf_form, own_leaves, map_form, language_form, table_form, row_form, else_form, always_form, source_behind, source_form, segment_form, made_from, chosen_from, copies_form, firsts_form, repeats_form, builds_form, at_form, or_form, each_form, group_form, drop_form, rule_form, keyword_form, form}
 
 abbrev pub ShapedRef : Ref → Type 0
 ShapedRef (Field from place) = LawfulFieldPath from × LawfulPlace place
@@ -27,13 +28,19 @@ ShapedLeaf (Lookup table ref) = (is_table_word table ≡ true) × ShapedRef ref
 ShapedLeaf (Date digits ref) = (is_date_length digits ≡ true) × ShapedRef ref
 
 abbrev pub ShapedLeafValue : LeafValue → Type 0
-ShapedLeafValue l = LawfulPlace l.place × ShapedLeaf l.leaf
+ShapedLeafValue l = LawfulPlace l.place × ShapedLeaf l.leaf × (l.others ≡ [])
 
 abbrev pub ShapedLeaves : List LeafValue → Type 0
 ShapedLeaves leaves = AllByRecursion ShapedLeafValue leaves × Distinct (places leaves)
 
 abbrev pub ShapedCondition : Condition → Type 0
 ShapedCondition c = LawfulPlace c.place
+
+abbrev pub ShapedFieldCondition : FieldCondition → Type 0
+ShapedFieldCondition c = LawfulFieldPath c.from × ShapedCondition c.condition
+
+abbrev pub ShapedWalk : Walk → Type 0
+ShapedWalk w = LawfulPath w.path × IfSome w.condition ShapedFieldCondition
 
 abbrev pub ShapedMaking : Making → Type 0
 ShapedMaking (Copies from) = LawfulFieldPath from
@@ -51,10 +58,11 @@ Shaped Language = Unit {0}
 Shaped (Table name) = is_name name ≡ true
 Shaped (Rows row) = IsFew row.seconds
 Shaped (Else values) = IsFew values
-Shaped (Segment at label source) = (is_name label ≡ true) × IfSome source LawfulPath
+Shaped (Segment at label source) = (is_name label ≡ true) × IfSome source ShapedWalk
 Shaped (Makes rule) = (rule.field ≤ 999) × ShapedMaking rule.making
 Shaped (At leaf) = ShapedLeafValue leaf
-Shaped (Each at label path) = IfSome label (λ name. is_name name ≡ true) × LawfulPath path
+Shaped (Or other) = ShapedLeaf other.leaf
+Shaped (Each at label walk) = IfSome label (λ name. is_name name ≡ true) × ShapedWalk walk
 Shaped End = Unit {0}
 Shaped (Drops drop) = LawfulDrop drop
 
@@ -100,10 +108,16 @@ place_or_first_is : (o : Option (List ℕ)) → IfSome (place_or_first o) Lawful
 place_or_first_is None = first_place
 place_or_first_is (Some bytes) = place_of_is bytes
 
+abbrev FieldPlaceIs : FieldPath × LeafPlace → Type 0
+FieldPlaceIs f = LawfulFieldPath f.0 × LawfulPlace f.1
+
+field_place_is : (bytes : List ℕ) → IfSome (field_place bytes) FieldPlaceIs
+field_place_is bytes =
+    gives LawfulFieldPath FieldPlaceIs (field_path (before_first is_dot bytes)) _ (field_path_is (before_first is_dot bytes))
+    (λ from h. gives LawfulPlace FieldPlaceIs (place_or_first (behind_first is_dot bytes)) _ (place_or_first_is (behind_first is_dot bytes)) (λ place k. (h, k)))
+
 field_ref_is : (bytes : List ℕ) → IfSome (field_ref bytes) ShapedRef
-field_ref_is bytes =
-    gives LawfulFieldPath ShapedRef (field_path (before_first is_dot bytes)) _ (field_path_is (before_first is_dot bytes))
-    (λ from h. gives LawfulPlace ShapedRef (place_or_first (behind_first is_dot bytes)) _ (place_or_first_is (behind_first is_dot bytes)) (λ place k. (h, k)))
+field_ref_is bytes = map_gives FieldPlaceIs ShapedRef (field_place bytes) _ (field_place_is bytes) (λ f h. h)
 
 ref_of_is : (bytes : List ℕ) → IfSome (ref_of bytes) ShapedRef
 ref_of_is [] = tt
@@ -168,7 +182,7 @@ leaf_form_is (keyword ∷ more) = leaf_of_is keyword more
 
 own_leaves_is : (at : ℕ) (words : List Word) → IfSome (own_leaves at words) ShapedLeaves
 own_leaves_is at [] = (tt, tt)
-own_leaves_is at (w ∷ words) = map_gives ShapedLeaf ShapedLeaves (leaf_form (w ∷ words)) _ (leaf_form_is (w ∷ words)) (λ leaf h. (((first_place, h), tt), ((λ k. k), tt)))
+own_leaves_is at (w ∷ words) = map_gives ShapedLeaf ShapedLeaves (leaf_form (w ∷ words)) _ (leaf_form_is (w ∷ words)) (λ leaf h. (((first_place, h, refl), tt), ((λ k. k), tt)))
 
 -- ---- lines
 
@@ -212,17 +226,41 @@ else_form_is words = gives IsFew Shaped (some_texts words) _ (some_texts_are wor
 language_form_is : (words : List Word) → IfSome (language_form words) Shaped
 language_form_is words = gives (λ _. Unit {0}) Shaped (behind (codes "2") words) _ (any (behind (codes "2") words)) (λ more u. with_all_is Shaped more Language tt)
 
-abbrev SourceIs : Option Path × List Word → Type 0
-SourceIs p = IfSome p.0 LawfulPath
+asked_at_is : (words : List Word) → IfSome (asked_at words) (λ p. FieldPlaceIs p.0)
+asked_at_is words =
+    gives (λ _. Unit {0}) _ (behind (codes "where") words) _ (any (behind (codes "where") words)) (λ more u. plain_at_is FieldPlaceIs field_place field_place_is more)
+
+field_condition_form_is : (words : List Word) → IfSome (field_condition_form words) ShapedFieldCondition
+field_condition_form_is words =
+    gives (λ p. FieldPlaceIs p.0) ShapedFieldCondition (asked_at words) _ (asked_at_is words)
+    (λ asked h. gives (λ _. Unit {0}) ShapedFieldCondition (behind (codes "is") asked.1) _ (any (behind (codes "is") asked.1))
+    (λ more u. gives (λ _. Unit {0}) ShapedFieldCondition (all_texts more) _ (any (all_texts more)) (λ values v. h)))
+
+abbrev FieldConditionIs : Option FieldCondition → Type 0
+FieldConditionIs c = IfSome c ShapedFieldCondition
+
+field_condition_at_is : (words : List Word) → IfSome (field_condition_at words) FieldConditionIs
+field_condition_at_is [] = tt
+field_condition_at_is (w ∷ words) =
+    map_gives ShapedFieldCondition FieldConditionIs (field_condition_form (w ∷ words)) Some (field_condition_form_is (w ∷ words)) (λ c h. h)
+
+walk_form_is : (words : List Word) → IfSome (walk_form words) ShapedWalk
+walk_form_is words =
+    gives (λ p. LawfulPath p.0) ShapedWalk (plain_at path_of words) _ (plain_at_is LawfulPath path_of path_of_is words)
+    (λ path h. gives FieldConditionIs ShapedWalk (field_condition_at path.1) _ (field_condition_at_is path.1) (λ condition k. (h, k)))
+
+abbrev SourceIs : Option Walk → Type 0
+SourceIs w = IfSome w ShapedWalk
 
 source_behind_is : (o : Option (List Word)) (words : List Word) → IfSome (source_behind o words) SourceIs
-source_behind_is None words = map_gives (λ _. Unit {0}) SourceIs (behind (codes "always") words) _ (any (behind (codes "always") words)) (λ more u. tt)
-source_behind_is (Some more) words = map_gives (λ p. LawfulPath p.0) SourceIs (plain_at path_of more) _ (plain_at_is LawfulPath path_of path_of_is more) (λ p h. h)
+source_behind_is None words =
+    gives (λ _. Unit {0}) SourceIs (behind (codes "always") words) _ (any (behind (codes "always") words)) (λ more u. with_all_is SourceIs more None tt)
+source_behind_is (Some more) words = map_gives ShapedWalk SourceIs (walk_form more) Some (walk_form_is more) (λ w h. h)
 
 segment_form_is : (at : ℕ) (words : List Word) → IfSome (segment_form at words) Shaped
 segment_form_is at words =
     gives (λ p. is_name p.0 ≡ true) Shaped (name_at words) _ (name_at_is words)
-    (λ label h. gives SourceIs Shaped (source_at label.1) _ (source_behind_is (behind (codes "from") label.1) label.1) (λ source k. with_all_is Shaped source.1 (Segment at label.0 source.0) (h, k)))
+    (λ label h. gives SourceIs Shaped (source_form label.1) _ (source_behind_is (behind (codes "from") label.1) label.1) (λ source k. (h, k)))
 
 abbrev MadeFrom : ℕ × FieldPath → Type 0
 MadeFrom m = (m.0 ≤ 999) × LawfulFieldPath m.1
@@ -266,12 +304,15 @@ builds_form_is at words =
 at_form_is : (at : ℕ) (words : List Word) → IfSome (at_form at words) Shaped
 at_form_is at words =
     gives (λ p. LawfulPlace p.0) Shaped (plain_at place_of words) _ (plain_at_is LawfulPlace place_of place_of_is words)
-    (λ place h. gives ShapedLeaf Shaped (leaf_form place.1) _ (leaf_form_is place.1) (λ leaf k. (h, k)))
+    (λ place h. gives ShapedLeaf Shaped (leaf_form place.1) _ (leaf_form_is place.1) (λ leaf k. (h, k, refl)))
+
+or_form_is : (at : ℕ) (words : List Word) → IfSome (or_form at words) Shaped
+or_form_is at words = map_gives ShapedLeaf Shaped (leaf_form words) _ (leaf_form_is words) (λ leaf h. h)
 
 each_form_is : (at : ℕ) (label : Option (List ℕ)) (words : List Word) → IfSome label (λ name. is_name name ≡ true) → IfSome (each_form at label words) Shaped
 each_form_is at label words h =
     gives (λ _. Unit {0}) Shaped (behind (codes "each") words) _ (any (behind (codes "each") words))
-    (λ more u. gives (λ p. LawfulPath p.0) Shaped (plain_at path_of more) _ (plain_at_is LawfulPath path_of path_of_is more) (λ path k. with_all_is Shaped path.1 (Each at label path.0) (h, k)))
+    (λ more u. gives ShapedWalk Shaped (walk_form more) _ (walk_form_is more) (λ walk k. (h, k)))
 
 group_form_is : (at : ℕ) (words : List Word) → IfSome (group_form at words) Shaped
 group_form_is at words = gives (λ p. is_name p.0 ≡ true) Shaped (name_at words) _ (name_at_is words) (λ label h. each_form_is at (Some label.0) label.1 h)
@@ -286,7 +327,8 @@ rule_form_is at keyword more =
     (either_gives Shaped (is_keyword (codes "first") keyword) (firsts_form at more) _ (map_gives ChosenFrom Shaped (chosen_from more) _ (chosen_from_is more) (λ m h. (h.0, (h.1, h.2))))
     (either_gives Shaped (is_keyword (codes "repeat") keyword) (repeats_form at more) _ (map_gives ChosenFrom Shaped (chosen_from more) _ (chosen_from_is more) (λ m h. (h.0, (h.1, h.2, refl))))
     (either_gives Shaped (is_keyword (codes "build") keyword) (builds_form at more) _ (builds_form_is at more)
-    (either_gives Shaped (is_keyword (codes "at") keyword) (at_form at more) None (at_form_is at more) tt))))
+    (either_gives Shaped (is_keyword (codes "at") keyword) (at_form at more) _ (at_form_is at more)
+    (either_gives Shaped (is_keyword (codes "or") keyword) (or_form at more) None (or_form_is at more) tt)))))
 
 keyword_form_is : (at : ℕ) (keyword : Word) (more : List Word) → IfSome (keyword_form at keyword more) Shaped
 keyword_form_is at keyword more =

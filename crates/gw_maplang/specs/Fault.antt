@@ -8,11 +8,11 @@ use Rattle.gw_lines.specs.Grammar.{Grammar}
 use Rattle.gw_maplang.specs.declared.fault.MapFault.{MapFault}
 use Rattle.gw_maplang.specs.declared.fault.MapFault.TheVariants.{Syntax, UnknownTable, BadConstant, Duplicate, TooDeep}
 use Rattle.gw_maplang.specs.declared.rule.LeafPlace.{LeafPlace}
-use Rattle.gw_maplang.specs.Shapes.{Current, Leaf, Const, Copy, Lookup, Date, LeafValue, Condition, Making, Copies, Firsts, Repeats, Builds, RuleValue, TableValue}
+use Rattle.gw_maplang.specs.Shapes.{Current, Leaf, Const, Copy, Lookup, Date, Alternative, LeafValue, Condition, FieldCondition, Walk, Making, Copies, Firsts, Repeats, Builds, RuleValue, TableValue}
 use Rattle.gw_maplang.specs.Columns.{WideRow, WideTable, new_table, widened, all_columns, behind_first, is_known}
 use Rattle.gw_maplang.specs.Lawful.{least_field}
 use Rattle.gw_lines.specs.Spelled.{is_dot}
-use Rattle.gw_maplang.specs.Line.{Line, Begins, Language, Table, Rows, Else, Segment, Makes, At, Each, End, Drops, form}
+use Rattle.gw_maplang.specs.Line.{Line, Begins, Language, Table, Rows, Else, Segment, Makes, At, Or, Each, End, Drops, form}
 
 -- ---- what the lines above leave open
 
@@ -73,13 +73,13 @@ in_table (line ∷ above) = false
 abbrev pub has_item : List Line → Bool
 has_item [] = false
 has_item (Segment at label source ∷ above) = true
-has_item (Each at label path ∷ above) = true
+has_item (Each at label walk ∷ above) = true
 has_item (line ∷ above) = has_item above
 
 -- how many groups and flats are open
 abbrev pub depth : List Line → ℕ
 depth [] = 0
-depth (Each at label path ∷ above) = depth above + 1
+depth (Each at label walk ∷ above) = depth above + 1
 depth (End ∷ above) = depth above - 1
 depth (line ∷ above) = depth above
 
@@ -91,7 +91,7 @@ is_flat (Some label) = false
 abbrev pub hollow : List Line → Bool
 hollow [] = false
 hollow (Segment at label source ∷ above) = false
-hollow (Each at label path ∷ above) = is_flat label
+hollow (Each at label walk ∷ above) = is_flat label
 hollow (End ∷ above) = false
 hollow (line ∷ above) = hollow above
 
@@ -109,6 +109,7 @@ abbrev pub segment_below : Line → Option OpenSegment → Option OpenSegment
 segment_below (Segment at label source) held = Some (record { least = least_field label; fields = [] })
 segment_below (Makes rule) held = with_field rule.field held
 segment_below (At leaf) held = held
+segment_below (Or other) held = held
 segment_below line held = None
 
 -- the segment to which a rule would belong
@@ -137,12 +138,35 @@ with_place place (Some r) = Some (record r { places = r.places ++ place ∷ [] }
 abbrev pub rule_below : Line → Option OpenRule → Option OpenRule
 rule_below (Makes rule) held = opened rule.making
 rule_below (At leaf) held = with_place leaf.place held
+rule_below (Or other) held = held
 rule_below line held = None
 
 -- the rule to which a leaf would belong
 abbrev pub open_rule : List Line → Option OpenRule
 open_rule [] = None
 open_rule (line ∷ above) = rule_below line (open_rule above)
+
+-- the leaf of a rule's own line
+abbrev pub own_leaf : Making → List LeafValue
+own_leaf (Builds leaves) = leaves
+own_leaf making = []
+
+-- it repeats a field
+abbrev pub is_repeated : Option OpenRule → Bool
+is_repeated None = false
+is_repeated (Some r) = r.repeated
+
+abbrev pub has_leaf : List LeafValue → Bool
+has_leaf [] = false
+has_leaf (leaf ∷ leaves) = true
+
+-- a leaf stands right above, which another may follow
+abbrev pub is_led : List Line → Bool
+is_led [] = false
+is_led (Makes rule ∷ above) = has_leaf (own_leaf rule.making)
+is_led (At leaf ∷ above) = true
+is_led (Or other ∷ above) = true
+is_led (line ∷ above) = false
 
 -- ---- the tests of a line
 
@@ -205,17 +229,22 @@ abbrev pub is_bad : Leaf → Bool
 is_bad (Const value) = not (is_value value)
 is_bad leaf = false
 
--- the leaf of a rule's own line
-abbrev pub own_leaf : Making → List LeafValue
-own_leaf (Builds leaves) = leaves
-own_leaf making = []
-
 -- the condition of a rule's line
 abbrev pub condition_of : Making → Option Condition
 condition_of (Copies from) = None
 condition_of (Firsts from condition) = condition
 condition_of (Repeats from condition leaves) = condition
 condition_of (Builds leaves) = None
+
+-- what a condition asks of its field
+abbrev pub asked_of : Option FieldCondition → Option Condition
+asked_of None = None
+asked_of (Some c) = Some c.condition
+
+-- the same of what a segment's line walks
+abbrev pub condition_in : Option Walk → Option Condition
+condition_in None = None
+condition_in (Some walk) = asked_of walk.condition
 
 -- a condition, in the first language
 abbrev pub is_hasty : Bool → Option Condition → Bool
@@ -266,17 +295,26 @@ else_tests above at values =
     (not (takes_values above (length values)), Syntax at)
     ∷ (not (list_all is_value values), BadConstant at) ∷ (is_said (last_table (wide_tables above)).other, Duplicate at) ∷ []
 
-abbrev pub segment_tests : List Line → ℕ → List (Bool × MapFault)
-segment_tests above at = (not (begun above), Syntax at) ∷ []
+abbrev pub segment_tests : List Line → ℕ → Option Condition → List (Bool × MapFault)
+segment_tests above at condition = (not (begun above) || is_hasty (is_second above) condition, Syntax at) ∷ (is_bad_condition condition, BadConstant at) ∷ []
+
+-- no segment above can hold this rule, or its language has no such rule
+abbrev pub is_misplaced_rule : List Line → RuleValue → Bool
+is_misplaced_rule above rule =
+    is_misplaced rule.field (open_segment above) || is_hasty (is_second above) (condition_of rule.making)
+    || list_any (λ l. is_stray false l.leaf || is_early (is_second above) l.leaf) (own_leaf rule.making)
+
+-- its leaf looks up in no table above
+abbrev pub is_unknown_rule : List Line → RuleValue → Bool
+is_unknown_rule above rule = list_any (λ l. is_unknown (wide_tables above) l.leaf) (own_leaf rule.making)
+
+-- its condition or its leaf has a constant that is no value
+abbrev pub is_bad_rule : RuleValue → Bool
+is_bad_rule rule = is_bad_condition (condition_of rule.making) || list_any (λ l. is_bad l.leaf) (own_leaf rule.making)
 
 abbrev pub rule_tests : List Line → ℕ → RuleValue → List (Bool × MapFault)
-rule_tests above at rule = (
-  is_misplaced rule.field (open_segment above) || is_hasty (is_second above) (condition_of rule.making)
-      || list_any (λ l. is_stray false l.leaf || is_early (is_second above) l.leaf) (own_leaf rule.making),
-  Syntax at,
-)
-    ∷ (list_any (λ l. is_unknown (wide_tables above) l.leaf) (own_leaf rule.making), UnknownTable at)
-    ∷ (is_bad_condition (condition_of rule.making) || list_any (λ l. is_bad l.leaf) (own_leaf rule.making), BadConstant at)
+rule_tests above at rule =
+    (is_misplaced_rule above rule, Syntax at) ∷ (is_unknown_rule above rule, UnknownTable at) ∷ (is_bad_rule rule, BadConstant at)
     ∷ (is_made rule.field (open_segment above), Duplicate at) ∷ []
 
 abbrev pub leaf_tests : List Line → ℕ → LeafValue → List (Bool × MapFault)
@@ -284,8 +322,15 @@ leaf_tests above at l =
     (is_misplaced_leaf l.leaf (open_rule above) || is_early (is_second above) l.leaf, Syntax at) ∷ (is_unknown (wide_tables above) l.leaf, UnknownTable at)
     ∷ (is_bad l.leaf, BadConstant at) ∷ (is_placed l.place (open_rule above), Duplicate at) ∷ []
 
-abbrev pub each_tests : List Line → ℕ → List (Bool × MapFault)
-each_tests above at = (not (begun above), Syntax at) ∷ (nat_le 16 (depth above), TooDeep at) ∷ []
+-- another leaf of the place above, in the second language
+abbrev pub or_tests : List Line → ℕ → Leaf → List (Bool × MapFault)
+or_tests above at leaf =
+    (not (is_second above) || not (is_led above) || is_stray (is_repeated (open_rule above)) leaf, Syntax at)
+    ∷ (is_unknown (wide_tables above) leaf, UnknownTable at) ∷ (is_bad leaf, BadConstant at) ∷ []
+
+abbrev pub each_tests : List Line → ℕ → Option Condition → List (Bool × MapFault)
+each_tests above at condition =
+    (not (begun above) || is_hasty (is_second above) condition, Syntax at) ∷ (is_bad_condition condition, BadConstant at) ∷ (nat_le 16 (depth above), TooDeep at) ∷ []
 
 abbrev pub end_tests : List Line → ℕ → List (Bool × MapFault)
 end_tests above at = ((depth above == 0) || hollow above, Syntax at) ∷ []
@@ -300,10 +345,11 @@ tests above at Language = language_tests above at
 tests above at (Table name) = table_tests above at name
 tests above at (Rows row) = row_tests above at row
 tests above at (Else values) = else_tests above at values
-tests above at (Segment line label source) = segment_tests above at
+tests above at (Segment line label source) = segment_tests above at (condition_in source)
 tests above at (Makes rule) = rule_tests above at rule
 tests above at (At leaf) = leaf_tests above at leaf
-tests above at (Each line label path) = each_tests above at
+tests above at (Or other) = or_tests above at other.leaf
+tests above at (Each line label walk) = each_tests above at (asked_of walk.condition)
 tests above at End = end_tests above at
 tests above at (Drops drop) = drop_tests above at
 

@@ -6,7 +6,7 @@ use Rattle.gw_profile.specs.Shapes as Profile
 use Rattle.gw_profile.specs.Line.{is_forbidden}
 use Rattle.gw_profile.specs.Seen.{segment_value, forest, node_forest}
 use Rattle.gw_maplang.specs.declared.item.Item.{Item}
-use Rattle.gw_maplang.specs.Shapes.{Copies, RuleValue, Items, nothing, segment, group, MapValue}
+use Rattle.gw_maplang.specs.Shapes.{Copies, RuleValue, Walk, Items, nothing, segment, group, MapValue}
 use Rattle.gw_maplang.specs.Seen.{with_item}
 
 -- a copy of the field of this number; the segment stands under its label
@@ -20,13 +20,17 @@ field_rules label (f ∷ fields) =
     if is_forbidden (Some f.usage) then field_rules label fields
     else copy_rule label f.number ∷ field_rules label fields
 
+-- all occurrences of the node of this label
+abbrev pub walk_all : List ℕ → Walk
+walk_all label = record { path = label ∷ []; condition = None }
+
 -- each segment that isn't X from itself, and each group from itself
 abbrev pub same_items : Profile.Forest → Items
 same_items Profile.nothing = nothing
 same_items (Profile.segment s rest) =
     if is_forbidden (Some s.usage) then same_items rest
-    else segment (record { line = 0; label = s.label; source = Some (s.label ∷ []); rules = field_rules s.label s.fields }) (same_items rest)
-same_items (Profile.group g nodes rest) = group (record { line = 0; label = g.label; path = g.label ∷ [] }) (same_items nodes) (same_items rest)
+    else segment (record { line = 0; label = s.label; source = Some (walk_all s.label); rules = field_rules s.label s.fields }) (same_items rest)
+same_items (Profile.group g nodes rest) = group (record { line = 0; label = g.label; walk = walk_all g.label }) (same_items nodes) (same_items rest)
 
 abbrev pub identity : Profile.ProfileValue → MapValue
 identity p = record { name = p.name; source = p.name; target = p.name; line = 0; tables = []; items = same_items p.nodes; drops = [] }
@@ -44,7 +48,7 @@ IsSameSegment item s = (rest : Profile.Forest) → with_some item (same_items re
 -- it is what stands for the group of this label and these nodes
 abbrev pub IsSameGroup : Option Item → List ℕ → List Node → Type 0
 IsSameGroup item label nodes =
-    (rest : Items) → with_some item rest ≡ group (record { line = 0; label = label; path = label ∷ [] }) (same_items (forest nodes)) rest
+    (rest : Items) → with_some item rest ≡ group (record { line = 0; label = label; walk = walk_all label }) (same_items (forest nodes)) rest
 
 -- the item, if any, is what stands for the node
 abbrev pub IsSame : Option Item → Node → Type 0

@@ -6,7 +6,7 @@ use Rattle.gw_lines.specs.Values.{is_value}
 use Rattle.gw_maplang.specs.declared.rule.LeafPlace.{LeafPlace}
 use Rattle.gw_maplang.specs.Among.{Among, Distinct}
 use Rattle.gw_maplang.specs.Columns.{is_table_word}
-use Rattle.gw_maplang.specs.Shapes.{Path, FieldPath, Ref, Field, Current, Leaf, Const, Copy, Lookup, Date, LeafValue, Condition, Making, Copies, Firsts, Repeats, Builds, RuleValue, SegmentItem, GroupItem, FlatItem, Items, nothing, segment, group, flat, Row, TableValue, DropValue, MapValue}
+use Rattle.gw_maplang.specs.Shapes.{Path, FieldPath, Ref, Field, Current, Leaf, Const, Copy, Lookup, Date, Alternative, LeafValue, Condition, FieldCondition, Walk, Making, Copies, Firsts, Repeats, Builds, RuleValue, SegmentItem, GroupItem, FlatItem, Items, nothing, segment, group, flat, Row, TableValue, DropValue, MapValue}
 
 -- ---- numbers and paths
 
@@ -58,8 +58,11 @@ LawfulLeaf tables repeated (Copy ref) = LawfulRef repeated ref
 LawfulLeaf tables repeated (Lookup table ref) = Among table tables × LawfulRef repeated ref
 LawfulLeaf tables repeated (Date digits ref) = (is_date_length digits ≡ true) × LawfulRef repeated ref
 
+abbrev pub LawfulOthers : List (List ℕ) → Bool → List Alternative → Type 0
+LawfulOthers tables repeated others = AllByRecursion (λ (o : Alternative). LawfulLeaf tables repeated o.leaf) others
+
 abbrev pub LawfulLeafValue : List (List ℕ) → Bool → LeafValue → Type 0
-LawfulLeafValue tables repeated l = LawfulPlace l.place × LawfulLeaf tables repeated l.leaf
+LawfulLeafValue tables repeated l = LawfulPlace l.place × LawfulLeaf tables repeated l.leaf × LawfulOthers tables repeated l.others
 
 abbrev pub places : List LeafValue → List LeafPlace
 places = map (λ (l : LeafValue). l.place)
@@ -73,6 +76,14 @@ pub record LawfulLeaves (tables : List (List ℕ)) (repeated : Bool) (leaves : L
 pub record LawfulCondition (c : Condition) : Type 0 where
   pub place : LawfulPlace c.place
   pub each : AllByRecursion (λ value. is_value value ≡ true) c.values
+
+pub record LawfulFieldCondition (c : FieldCondition) : Type 0 where
+  pub from : LawfulFieldPath c.from
+  pub condition : LawfulCondition c.condition
+
+pub record LawfulWalk (w : Walk) : Type 0 where
+  pub path : LawfulPath w.path
+  pub condition : IfSome w.condition LawfulFieldCondition
 
 abbrev pub LawfulMaking : List (List ℕ) → Making → Type 0
 LawfulMaking tables (Copies from) = LawfulFieldPath from
@@ -91,17 +102,17 @@ rule_fields = map (λ (r : RuleValue). r.field)
 -- one rule for each field of the target
 pub record LawfulSegment (tables : List (List ℕ)) (s : SegmentItem) : Type 0 where
   pub labelled : is_name s.label ≡ true
-  pub source : IfSome s.source LawfulPath
+  pub source : IfSome s.source LawfulWalk
   pub each : AllByRecursion (LawfulRule tables s.label) s.rules
   pub distinct : Distinct (rule_fields s.rules)
 
 pub record LawfulGroup (g : GroupItem) : Type 0 where
   pub labelled : is_name g.label ≡ true
-  pub path : LawfulPath g.path
+  pub walk : LawfulWalk g.walk
 
 -- a flat has an item
 pub record LawfulFlat (f : FlatItem) (items : Items) : Type 0 where
-  pub path : LawfulPath f.path
+  pub walk : LawfulWalk f.walk
   pub some : items ≡ nothing → ⊥
 
 abbrev pub LawfulItems : List (List ℕ) → Items → Type 0

@@ -7,7 +7,7 @@ use Rattle.gw_lines.specs.Spelled.{plain_bytes, is_keyword, is_name, is_dot, num
 use Rattle.gw_lines.specs.Values.{bytes_of}
 use Rattle.gw_lines.specs.Parts.{first_word, name_at, number_at, behind, with_all, ◌>>=◌}
 use Rattle.gw_maplang.specs.declared.rule.LeafPlace.{LeafPlace}
-use Rattle.gw_maplang.specs.Shapes.{Path, FieldPath, Ref, Field, Current, Leaf, Const, Copy, Lookup, Date, LeafValue, Condition, Copies, Firsts, Repeats, Builds, RuleValue, DropValue}
+use Rattle.gw_maplang.specs.Shapes.{Path, FieldPath, Ref, Field, Current, Leaf, Const, Copy, Lookup, Date, Alternative, LeafValue, Condition, FieldCondition, Walk, Copies, Firsts, Repeats, Builds, RuleValue, DropValue}
 use Rattle.gw_maplang.specs.Columns.{WideRow, behind_first, is_table_word}
 use Rattle.gw_maplang.specs.Lawful.{least_field, last_label, is_date_length}
 
@@ -19,10 +19,11 @@ pub data Line : Type 0 where
   Table : (name : List ℕ) → Line
   Rows : (row : WideRow) → Line
   Else : (values : List (List ℕ)) → Line
-  Segment : (at : ℕ) (label : List ℕ) (source : Option Path) → Line
+  Segment : (at : ℕ) (label : List ℕ) (source : Option Walk) → Line
   Makes : (rule : RuleValue) → Line
   At : (leaf : LeafValue) → Line
-  Each : (at : ℕ) (label : Option (List ℕ)) (path : Path) → Line
+  Or : (other : Alternative) → Line
+  Each : (at : ℕ) (label : Option (List ℕ)) (walk : Walk) → Line
   End : Line
   Drops : (drop : DropValue) → Line
 
@@ -68,11 +69,14 @@ place_or_first None = Some (record { comp = 1; sub = 1 })
 place_or_first (Some bytes) = place_of bytes
 
 -- PATH-F, PATH-F.C or PATH-F.C.S
-abbrev pub field_ref : List ℕ → Option Ref
-field_ref bytes = do
+abbrev pub field_place : List ℕ → Option (FieldPath × LeafPlace)
+field_place bytes = do
   from ← field_path (before_first is_dot bytes)
   place ← place_or_first (behind_first is_dot bytes)
-  Some (Field from place)
+  Some (from, place)
+
+abbrev pub field_ref : List ℕ → Option Ref
+field_ref bytes = option_map (λ f. Field f.0 f.1) (field_place bytes)
 
 -- the same, or .C or .C.S
 abbrev pub ref_of : List ℕ → Option Ref
@@ -177,6 +181,32 @@ abbrev pub condition_at : List Word → Option (Option Condition)
 condition_at [] = Some None
 condition_at (w ∷ words) = option_map Some (condition_form (w ∷ words))
 
+-- where REF, in a condition on occurrences
+abbrev pub asked_at : List Word → Option ((FieldPath × LeafPlace) × List Word)
+asked_at words = do
+  more ← behind (codes "where") words
+  plain_at field_place more
+
+-- where REF is VALUE ..
+abbrev pub field_condition_form : List Word → Option FieldCondition
+field_condition_form words = do
+  asked ← asked_at words
+  more ← behind (codes "is") asked.1
+  values ← all_texts more
+  Some (record { from = asked.0.0; condition = record { place = asked.0.1; values = values } })
+
+-- the same, or nothing
+abbrev pub field_condition_at : List Word → Option (Option FieldCondition)
+field_condition_at [] = Some None
+field_condition_at (w ∷ words) = option_map Some (field_condition_form (w ∷ words))
+
+-- PATH [where REF is VALUE ..]
+abbrev pub walk_form : List Word → Option Walk
+walk_form words = do
+  path ← plain_at path_of words
+  condition ← field_condition_at path.1
+  Some (record { path = path.0; condition = condition })
+
 -- const VALUE
 abbrev pub const_form : List Word → Option Leaf
 const_form words = do
@@ -229,7 +259,7 @@ leaf_form (keyword ∷ more) = leaf_of keyword more
 -- [LEAF], at place 1.1
 abbrev pub own_leaves : ℕ → List Word → Option (List LeafValue)
 own_leaves at [] = Some []
-own_leaves at (w ∷ words) = option_map (λ leaf. record { line = at; place = record { comp = 1; sub = 1 }; leaf = leaf } ∷ []) (leaf_form (w ∷ words))
+own_leaves at (w ∷ words) = option_map (λ leaf. record { line = at; place = record { comp = 1; sub = 1 }; leaf = leaf; others = [] } ∷ []) (leaf_form (w ∷ words))
 
 -- ---- lines
 
@@ -268,20 +298,26 @@ else_form words = do
   values ← some_texts words
   Some (Else values)
 
--- from PATH or always
-abbrev pub source_behind : Option (List Word) → List Word → Option (Option Path × List Word)
-source_behind None words = option_map (λ more. (None, more)) (behind (codes "always") words)
-source_behind (Some more) words = option_map (λ p. (Some p.0, p.1)) (plain_at path_of more)
+-- always
+abbrev pub always_form : List Word → Option (Option Walk)
+always_form words = do
+  more ← behind (codes "always") words
+  with_all more None
 
-abbrev pub source_at : List Word → Option (Option Path × List Word)
-source_at words = source_behind (behind (codes "from") words) words
+-- from PATH [where REF is VALUE ..], or always
+abbrev pub source_behind : Option (List Word) → List Word → Option (Option Walk)
+source_behind None words = always_form words
+source_behind (Some more) words = option_map Some (walk_form more)
 
--- segment LABEL from PATH, segment LABEL always
+abbrev pub source_form : List Word → Option (Option Walk)
+source_form words = source_behind (behind (codes "from") words) words
+
+-- segment LABEL from PATH [where REF is VALUE ..], segment LABEL always
 abbrev pub segment_form : ℕ → List Word → Option Line
 segment_form at words = do
   label ← name_at words
-  source ← source_at label.1
-  with_all source.1 (Segment at label.0 source.0)
+  source ← source_form label.1
+  Some (Segment at label.0 source)
 
 -- N from PATH-F
 abbrev pub made_from : List Word → Option (ℕ × FieldPath)
@@ -322,16 +358,20 @@ abbrev pub at_form : ℕ → List Word → Option Line
 at_form at words = do
   place ← plain_at place_of words
   leaf ← leaf_form place.1
-  Some (At (record { line = at; place = place.0; leaf = leaf }))
+  Some (At (record { line = at; place = place.0; leaf = leaf; others = [] }))
 
--- each PATH
+-- or LEAF
+abbrev pub or_form : ℕ → List Word → Option Line
+or_form at words = option_map (λ leaf. Or (record { line = at; leaf = leaf })) (leaf_form words)
+
+-- each PATH [where REF is VALUE ..]
 abbrev pub each_form : ℕ → Option (List ℕ) → List Word → Option Line
 each_form at label words = do
   more ← behind (codes "each") words
-  path ← plain_at path_of more
-  with_all path.1 (Each at label path.0)
+  walk ← walk_form more
+  Some (Each at label walk)
 
--- group LABEL each PATH
+-- group LABEL each PATH [where REF is VALUE ..]
 abbrev pub group_form : ℕ → List Word → Option Line
 group_form at words = do
   label ← name_at words
@@ -351,6 +391,7 @@ rule_form at keyword more =
     else if is_keyword (codes "repeat") keyword then repeats_form at more
     else if is_keyword (codes "build") keyword then builds_form at more
     else if is_keyword (codes "at") keyword then at_form at more
+    else if is_keyword (codes "or") keyword then or_form at more
     else None
 
 -- the line of a keyword and the words behind it

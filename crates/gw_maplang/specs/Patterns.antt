@@ -3,12 +3,23 @@ use Rattle.std.specs.Prelude.{ℕ, ◌-◌, Bool, false, true, if◌then◌else�
 use Rattle.gw_lines.specs.Words.{lines}
 use Rattle.gw_lines.specs.Expected.{keyword_of, line_at}
 
+-- the pattern of the lines that walk occurrences, in the second language or the first
+abbrev pub segment_pattern : Bool → List ℕ
+segment_pattern second =
+    if second then codes "segment LABEL from PATH [where REF is VALUE ..], or segment LABEL always" else codes "segment LABEL from PATH, or segment LABEL always"
+
+abbrev pub group_pattern : Bool → List ℕ
+group_pattern second = if second then codes "group LABEL each PATH [where REF is VALUE ..]" else codes "group LABEL each PATH"
+
+abbrev pub flat_pattern : Bool → List ℕ
+flat_pattern second = if second then codes "flat each PATH [where REF is VALUE ..]" else codes "flat each PATH"
+
 -- the pattern of the lines of items with this keyword, or all keywords where it is none
-abbrev pub item_pattern : List ℕ → List ℕ
-item_pattern keyword =
-    if bytes_eq keyword (codes "segment") then codes "segment LABEL from PATH, or segment LABEL always"
-    else if bytes_eq keyword (codes "group") then codes "group LABEL each PATH"
-    else if bytes_eq keyword (codes "flat") then codes "flat each PATH"
+abbrev pub item_pattern : Bool → List ℕ → List ℕ
+item_pattern second keyword =
+    if bytes_eq keyword (codes "segment") then segment_pattern second
+    else if bytes_eq keyword (codes "group") then group_pattern second
+    else if bytes_eq keyword (codes "flat") then flat_pattern second
     else if bytes_eq keyword (codes "end") then codes "end, of a group, or of a flat with an item"
     else if bytes_eq keyword (codes "drop") then codes "drop PATH[-F], outside groups and flats"
     else codes "map, table, row, else, segment, copy, first, repeat, build, at, group, flat, end or drop"
@@ -28,7 +39,7 @@ rule_pattern second keyword =
     else if bytes_eq keyword (codes "repeat") then repeat_pattern second
     else if bytes_eq keyword (codes "build") then codes "build N [LEAF], below a segment"
     else if bytes_eq keyword (codes "at") then codes "at C[.S] LEAF, below repeat or build"
-    else item_pattern keyword
+    else item_pattern second keyword
 
 -- the same of the lines of tables, in the second language or the first
 abbrev pub row_pattern : Bool → List ℕ
@@ -36,6 +47,10 @@ row_pattern second = if second then codes "row VALUE VALUE .., below a table, wi
 
 abbrev pub else_pattern : Bool → List ℕ
 else_pattern second = if second then codes "else VALUE .., below a table, with as many as the lines above" else codes "else VALUE, below a table"
+
+-- the same of `or` lines; in the first language it is no keyword
+abbrev pub or_pattern : Bool → List ℕ
+or_pattern second = if second then codes "or LEAF, below at or build with a LEAF" else item_pattern false (codes "or")
 
 -- the same of all lines
 abbrev pub pattern : Bool → List ℕ → List ℕ
@@ -45,6 +60,7 @@ pattern second keyword =
     else if bytes_eq keyword (codes "table") then codes "table NAME, before the first item"
     else if bytes_eq keyword (codes "row") then row_pattern second
     else if bytes_eq keyword (codes "else") then else_pattern second
+    else if bytes_eq keyword (codes "or") then or_pattern second
     else rule_pattern second keyword
 
 -- whether the map is one of the second language, by the keyword of its line

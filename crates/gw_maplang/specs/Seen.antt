@@ -7,7 +7,10 @@ use Rattle.gw_maplang.specs.declared.rule.FieldPath as field_paths
 use Rattle.gw_maplang.specs.declared.rule.Ref as refs
 use Rattle.gw_maplang.specs.declared.rule.Leaf as leaves
 use Rattle.gw_maplang.specs.declared.rule.LeafRule.{LeafRule}
+use Rattle.gw_maplang.specs.declared.rule.Alternative as alternatives
 use Rattle.gw_maplang.specs.declared.rule.Condition as conditions
+use Rattle.gw_maplang.specs.declared.rule.FieldCondition as field_conditions
+use Rattle.gw_maplang.specs.declared.rule.Walk as walks
 use Rattle.gw_maplang.specs.declared.rule.Rule as rules
 use Rattle.gw_maplang.specs.declared.rule.Dropped.{Dropped}
 use Rattle.gw_maplang.specs.declared.item.Item.{Item, SegFrom, SegAlways, EachAs', EachFlat', Row_of-Item, end_of-Item, more_of-Item}
@@ -17,7 +20,7 @@ use Rattle.gw_maplang.specs.declared.context as Held
 use Rattle.gw_maplang.specs.Fault as Fault
 use Rattle.gw_lines.specs.Grammar.{AllTaken}
 use Rattle.gw_maplang.specs.Columns.{WideRow, WideRows, WideTable}
-use Rattle.gw_maplang.specs.Shapes.{Path, FieldPath, Ref, Field, Current, Leaf, Const, Copy, Lookup, Date, LeafValue, Condition, Copies, Firsts, Repeats, Builds, RuleValue, Items, nothing, segment, group, flat, Row, Rows, TableValue, DropValue, MapValue}
+use Rattle.gw_maplang.specs.Shapes.{Path, FieldPath, Ref, Field, Current, Leaf, Const, Copy, Lookup, Date, Alternative, LeafValue, Condition, FieldCondition, Walk, Copies, Firsts, Repeats, Builds, RuleValue, Items, nothing, segment, group, flat, Row, Rows, TableValue, DropValue, MapValue}
 
 abbrev pub now : Option (Bor (List ℕ)) → Option (List ℕ)
 now found = option_map (λ bytes. bytes.now) found
@@ -52,8 +55,11 @@ leaf (leaves.TheVariants.Copy r) = Copy (ref r)
 leaf (leaves.TheVariants.Lookup name r) = Lookup name.items (ref r)
 leaf (leaves.TheVariants.Date digits r) = Date digits (ref r)
 
+abbrev pub alternative : alternatives.Alternative → Alternative
+alternative o = record { line = o.line; leaf = leaf o.leaf }
+
 abbrev pub leaf_value : LeafRule → LeafValue
-leaf_value l = record { line = l.line; place = l.place; leaf = leaf l.leaf }
+leaf_value l = record { line = l.line; place = l.place; leaf = leaf l.leaf; others = map alternative l.others.items }
 
 abbrev pub condition : conditions.Condition → Condition
 condition c = record { place = c.place; values = path c.values }
@@ -63,6 +69,18 @@ condition_some c = option_map condition c
 
 abbrev pub condition_now : Option (Bor conditions.Condition) → Option Condition
 condition_now c = option_map (λ d. condition d.now) c
+
+abbrev pub field_condition : field_conditions.FieldCondition → FieldCondition
+field_condition c = record { from = field_path c.from; condition = condition c.condition }
+
+abbrev pub field_condition_some : Option field_conditions.FieldCondition → Option FieldCondition
+field_condition_some c = option_map field_condition c
+
+abbrev pub walk : walks.Walk → Walk
+walk w = record { path = path w.path; condition = field_condition_some w.condition }
+
+abbrev pub walk_some : Option walks.Walk → Option Walk
+walk_some w = option_map walk w
 
 abbrev pub rule : rules.Rule → RuleValue
 rule (rules.TheVariants.CopyField r) = record { line = r.line; field = r.field; making = Copies (field_path r.from) }
@@ -75,10 +93,10 @@ rule (rules.TheVariants.Build r) = record { line = r.line; field = r.field; maki
 abbrev mutual
   -- an item with the items behind it
   pub with_item : Item → Items → Items
-  with_item (SegFrom s) rest = segment (record { line = s.line; label = s.label.items; source = Some (path s.path); rules = map rule s.rules.items }) rest
+  with_item (SegFrom s) rest = segment (record { line = s.line; label = s.label.items; source = Some (walk s.walk); rules = map rule s.rules.items }) rest
   with_item (SegAlways s) rest = segment (record { line = s.line; label = s.label.items; source = None; rules = map rule s.rules.items }) rest
-  with_item (EachAs' line label from shape row) rest = group (record { line = line; label = label.items; path = path from }) (row_items row) rest
-  with_item (EachFlat' line from shape row) rest = flat (record { line = line; path = path from }) (row_items row) rest
+  with_item (EachAs' line label from shape row) rest = group (record { line = line; label = label.items; walk = walk from }) (row_items row) rest
+  with_item (EachFlat' line from shape row) rest = flat (record { line = line; walk = walk from }) (row_items row) rest
 
   pub row_items : {n : _} → Row_of-Item n → Items
   row_items end_of-Item = nothing
@@ -131,10 +149,11 @@ line declared.TheVariants.Language = Spec.Language
 line (declared.TheVariants.Table name) = Spec.Table name.now
 line (declared.TheVariants.Rows first seconds) = Spec.Rows (record { first = first.now; seconds = now_all seconds.items })
 line (declared.TheVariants.Else values) = Spec.Else (now_all values.items)
-line (declared.TheVariants.Segment at label source) = Spec.Segment at label.now (path_some source)
+line (declared.TheVariants.Segment at label source) = Spec.Segment at label.now (walk_some source)
 line (declared.TheVariants.Makes r) = Spec.Makes (rule r)
 line (declared.TheVariants.At l) = Spec.At (leaf_value l)
-line (declared.TheVariants.Each at label p) = Spec.Each at (now label) (path p)
+line (declared.TheVariants.Or o) = Spec.Or (alternative o)
+line (declared.TheVariants.Each at label w) = Spec.Each at (now label) (walk w)
 line declared.TheVariants.End = Spec.End
 line (declared.TheVariants.Drops d) = Spec.Drops (dropped d)
 
@@ -151,14 +170,14 @@ abbrev pub open_rule : Option Held.OpenRule.OpenRule → Option Fault.OpenRule
 open_rule r = option_map (λ o. record { repeated = o.repeated; places = o.places.keys }) r
 
 abbrev pub open_parts : List Spec.Line → Held.OpenParts.OpenParts
-open_parts above = record { second = Fault.is_second above; in_table = Fault.in_table above; has_item = Fault.has_item above; depth = Fault.depth above; hollow = Fault.hollow above }
+open_parts above = record { second = Fault.is_second above; in_table = Fault.in_table above; has_item = Fault.has_item above; depth = Fault.depth above; hollow = Fault.hollow above; led = Fault.is_led above }
 
 abbrev pub OpenPartsFollow : Held.OpenParts.OpenParts → Held.OpenParts.OpenParts → Spec.Line → Type 0
 OpenPartsFollow old new l = (above : List Spec.Line) → old ≡ open_parts above → new ≡ open_parts (l ∷ above)
 
 -- few enough groups and flats are open
 abbrev pub HasRoom : ℕ → Spec.Line → Type 0
-HasRoom depth (Spec.Each at label p) = depth < 16
+HasRoom depth (Spec.Each at label walk) = depth < 16
 HasRoom depth line = Unit {0}
 
 -- a table or row is new

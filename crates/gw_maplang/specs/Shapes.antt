@@ -24,15 +24,32 @@ pub data Leaf : Type 0 where
   -- the first digits of a date and time, as many as said
   Date : (digits : ℕ) (ref : Ref) → Leaf
 
+-- a leaf that stands for those above it of its place, and its line
+pub record Alternative : Type 0 where
+  pub line : ℕ
+  pub leaf : Leaf
+
+-- the leaf of a place; where it gives no text, the first of the others that gives one
 pub record LeafValue : Type 0 where
   pub line : ℕ
   pub place : LeafPlace
   pub leaf : Leaf
+  pub others : List Alternative
 
 -- some repetitions of a field: those whose text at the place is one of the values
 pub record Condition : Type 0 where
   pub place : LeafPlace
   pub values : List (List ℕ)
+
+-- some occurrences: those where the first repetition of a field, read within each, is one of those
+pub record FieldCondition : Type 0 where
+  pub from : FieldPath
+  pub condition : Condition
+
+-- the occurrences to which a path leads; where there is a condition, only those that it chooses
+pub record Walk : Type 0 where
+  pub path : Path
+  pub condition : Option FieldCondition
 
 -- How a field is made: it is another one as it is, its first repetition, one repetition of these leaves for each of its own, or one of these leaves.
 -- Where there is a condition, only the repetitions count that it chooses.
@@ -48,23 +65,23 @@ pub record RuleValue : Type 0 where
   pub field : ℕ
   pub making : Making
 
--- a segment of the target with this label, for each occurrence to which the source leads, or one where no source is said
+-- a segment of the target with this label, for each occurrence that is walked, or one where no source is said
 pub record SegmentItem : Type 0 where
   pub line : ℕ
   pub label : List ℕ
-  pub source : Option Path
+  pub source : Option Walk
   pub rules : List RuleValue
 
--- a group of the target with this label, for each occurrence to which the path leads
+-- a group of the target with this label, for each occurrence that is walked
 pub record GroupItem : Type 0 where
   pub line : ℕ
   pub label : List ℕ
-  pub path : Path
+  pub walk : Walk
 
--- the occurrences to which the path leads, without a group of the target
+-- the occurrences that are walked, without a group of the target
 pub record FlatItem : Type 0 where
   pub line : ℕ
-  pub path : Path
+  pub walk : Walk
 
 -- a list of items: each a segment, or a group or flat with its own items
 pub data Items : Type 0 where

@@ -1,19 +1,20 @@
 //! Builds a map from its lines, from the last to the first.
-ghost use Rattle.std.specs.Prelude.{◌≡◌, map, reverse, IfOk, OnOk, Some, None};
+ghost use Rattle.std.specs.Prelude.{◌≡◌, [], map, reverse, IfOk, OnOk, Some, None};
 ghost use Rattle.gw_maplang.specs.own.Building.{Stands, Grows, parts_of, levels_of, all_behind, IsSegment, IsEach, head_value};
-ghost use Rattle.gw_maplang.specs.Seen.{line, rule, leaf_value, dropped, all_items, now, items_of, path, path_some};
+ghost use Rattle.gw_maplang.specs.Seen.{line, rule, alternative, leaf_value, dropped, all_items, now, items_of, walk, walk_some};
 ghost use Rattle.gw_maplang.specs.Line as line_of;
 ghost use Rattle.gw_maplang.specs.Value as spec;
 
 use crate::form::Line;
 use crate::item::{AlwaysItem, FlatItem, FromItem, GroupItem, Item};
-use crate::rule::{BuildRule, Dropped, LeafRule, RepeatRule, Rule};
+use crate::rule::{Alternative, BuildRule, Dropped, LeafRule, RepeatRule, Rule, Walk};
 use std::alloc::{AllocError, Global};
 use std::mem;
 
 // The parts that the lines below the current one spell, each list in reverse order. A part goes to the line that opens it.
 #[derive(Drop)]
 struct Below {
+    others: Vec<Alternative>,
     leaves: Vec<LeafRule>,
     rules: Vec<Rule>,
     items: Vec<Item>,
@@ -49,6 +50,7 @@ fn close_parts(alloc: Global, below: &mut Below)
     ensures behind { below.new.behind.items ≡ below.old.behind.items }
     ensures drops { below.new.drops.items ≡ below.old.drops.items }
 {
+    below.others = Vec::new(alloc);
     below.leaves = Vec::new(alloc);
     below.rules = Vec::new(alloc);
 }
@@ -57,17 +59,17 @@ fn close_parts(alloc: Global, below: &mut Below)
 pub(crate) fn segment_item(
     line: u32,
     label: Vec<u8>,
-    source: Option<Vec<Vec<u8>>>,
+    source: Option<Walk>,
     rules: Vec<Rule>,
 ) -> Item
-    ensures { IsSegment result line label.items (path_some source) (map rule rules.items) }
+    ensures { IsSegment result line label.items (walk_some source) (map rule rules.items) }
 {
     match source {
         None => Item::SegAlways(AlwaysItem { line, label, rules }),
-        Some(path) => Item::SegFrom(FromItem {
+        Some(walk) => Item::SegFrom(FromItem {
             line,
             label,
-            path,
+            walk,
             rules,
         }),
     }
@@ -78,9 +80,9 @@ fn add_segment(
     below: &mut Below,
     at: u32,
     label: &[u8],
-    source: Option<Vec<Vec<u8>>>,
+    source: Option<Walk>,
 ) -> Result<(), AllocError>
-    ensures { OnOk result (Grows below.old below.new (line_of.Segment at label.now (path_some source))) }
+    ensures { OnOk result (Grows below.old below.new (line_of.Segment at label.now (walk_some source))) }
 {
     let label = copy_of(alloc, label)?;
     let mut rules = mem::replace(&mut below.rules, Vec::new(alloc));
@@ -91,18 +93,30 @@ fn add_segment(
     Ok(())
 }
 
-// The leaf of the rule's own line, else the leaves of the lines below it.
-fn own_or(own: Vec<LeafRule>, below: Vec<LeafRule>) -> Vec<LeafRule>
-    ensures { map leaf_value result.items ≡ spec.own_or (map leaf_value own.items) (map leaf_value below.items) }
+// Takes what stands below the current line, in order.
+fn take_others(alloc: Global, others: &mut Vec<Alternative>) -> Vec<Alternative>
+    ensures taken { result.items ≡ reverse others.old.items }
+    ensures none { others.new.items ≡ [] }
+{
+    let mut taken = mem::replace(others, Vec::new(alloc));
+    taken.reverse();
+    taken
+}
+
+// The leaf of the rule's own line with the others of the lines below it, else the leaves of those lines.
+fn own_or(own: Vec<LeafRule>, others: Vec<Alternative>, below: Vec<LeafRule>) -> Vec<LeafRule>
+    ensures { map leaf_value result.items ≡ spec.own_or (map leaf_value own.items) (map alternative others.items) (map leaf_value below.items) }
 {
     if own.is_empty() {
         return below;
     }
+    let mut own = own;
+    own[0].others = others;
     own
 }
 
-fn rule_with(made: Rule, below: Vec<LeafRule>) -> Rule
-    ensures { rule result ≡ spec.rule_with (rule made) (map leaf_value below.items) }
+fn rule_with(made: Rule, others: Vec<Alternative>, below: Vec<LeafRule>) -> Rule
+    ensures { rule result ≡ spec.rule_with (rule made) (map alternative others.items) (map leaf_value below.items) }
 {
     match made {
         Rule::CopyField(made) => Rule::CopyField(made),
@@ -120,7 +134,7 @@ fn rule_with(made: Rule, below: Vec<LeafRule>) -> Rule
                 field,
                 from,
                 condition,
-                leaves: own_or(leaves, below),
+                leaves: own_or(leaves, others, below),
             })
         }
         Rule::Build(made) => {
@@ -132,7 +146,7 @@ fn rule_with(made: Rule, below: Vec<LeafRule>) -> Rule
             Rule::Build(BuildRule {
                 line,
                 field,
-                leaves: own_or(leaves, below),
+                leaves: own_or(leaves, others, below),
             })
         }
     }
@@ -141,17 +155,33 @@ fn rule_with(made: Rule, below: Vec<LeafRule>) -> Rule
 fn add_rule(alloc: Global, below: &mut Below, made: Rule) -> Result<(), AllocError>
     ensures { OnOk result (Grows below.old below.new (line_of.Makes (rule made))) }
 {
+    let others = take_others(alloc, &mut below.others);
     let mut leaves = mem::replace(&mut below.leaves, Vec::new(alloc));
     leaves.reverse();
-    let made = rule_with(made, leaves);
+    let made = rule_with(made, others, leaves);
     below.rules.push(made)?;
     Ok(())
 }
 
-fn add_leaf(below: &mut Below, made: LeafRule) -> Result<(), AllocError>
+fn with_others(made: LeafRule, others: Vec<Alternative>) -> LeafRule
+    ensures { leaf_value result ≡ spec.with_others (leaf_value made) (map alternative others.items) }
+{
+    LeafRule { others, ..made }
+}
+
+fn add_leaf(alloc: Global, below: &mut Below, made: LeafRule) -> Result<(), AllocError>
     ensures { OnOk result (Grows below.old below.new (line_of.At (leaf_value made))) }
 {
+    let others = take_others(alloc, &mut below.others);
+    let made = with_others(made, others);
     below.leaves.push(made)?;
+    Ok(())
+}
+
+fn add_other(below: &mut Below, made: Alternative) -> Result<(), AllocError>
+    ensures { OnOk result (Grows below.old below.new (line_of.Or (alternative made))) }
+{
+    below.others.push(made)?;
     Ok(())
 }
 
@@ -166,24 +196,24 @@ fn take_next(alloc: Global, behind: &mut Vec<Vec<Item>>) -> Vec<Item>
     }
 }
 
-fn flat_item(line: u32, from: Vec<Vec<u8>>, items: Vec<Item>) -> Item
-    ensures { IsEach result line None (path from) items.items }
+fn flat_item(line: u32, from: Walk, items: Vec<Item>) -> Item
+    ensures { IsEach result line None (walk from) items.items }
 {
     Item::EachFlat(FlatItem {
         line,
-        path: from,
+        walk: from,
         items,
     })
 }
 
 /// A group with these items.
-pub(crate) fn group_item(line: u32, label: Vec<u8>, from: Vec<Vec<u8>>, items: Vec<Item>) -> Item
-    ensures { IsEach result line (Some label.items) (path from) items.items }
+pub(crate) fn group_item(line: u32, label: Vec<u8>, from: Walk, items: Vec<Item>) -> Item
+    ensures { IsEach result line (Some label.items) (walk from) items.items }
 {
     Item::EachAs(GroupItem {
         line,
         label,
-        path: from,
+        walk: from,
         items,
     })
 }
@@ -192,10 +222,10 @@ fn each_item(
     alloc: Global,
     line: u32,
     label: Option<&[u8]>,
-    from: Vec<Vec<u8>>,
+    from: Walk,
     items: Vec<Item>,
 ) -> Result<Item, AllocError>
-    ensures { IfOk result (λ item. IsEach item line (now label.entry) (path from) items.items) }
+    ensures { IfOk result (λ item. IsEach item line (now label.entry) (walk from) items.items) }
 {
     match label {
         None => Ok(flat_item(line, from, items)),
@@ -211,9 +241,9 @@ fn add_each(
     below: &mut Below,
     at: u32,
     label: Option<&[u8]>,
-    from: Vec<Vec<u8>>,
+    from: Walk,
 ) -> Result<(), AllocError>
-    ensures { OnOk result (Grows below.old below.new (line_of.Each at (now label.entry) (path from))) }
+    ensures { OnOk result (Grows below.old below.new (line_of.Each at (now label.entry) (walk from))) }
 {
     close_parts(alloc, below);
     let rest = take_next(alloc, &mut below.behind);
@@ -267,8 +297,9 @@ fn add_line(alloc: Global, below: &mut Below, whole: Line) -> Result<(), AllocEr
         }
         Line::Segment(at, label, source) => add_segment(alloc, below, at, label, source),
         Line::Makes(made) => add_rule(alloc, below, made),
-        Line::At(made) => add_leaf(below, made),
-        Line::Each(at, label, path) => add_each(alloc, below, at, label, path),
+        Line::At(made) => add_leaf(alloc, below, made),
+        Line::Or(made) => add_other(below, made),
+        Line::Each(at, label, walk) => add_each(alloc, below, at, label, walk),
         Line::End => add_end(alloc, below),
         Line::Drops(left) => add_drop(alloc, below, left),
     }
@@ -278,6 +309,7 @@ fn all_below(alloc: Global, lines: Vec<Line>) -> Result<Below, AllocError>
     ensures { IfOk result (λ below. Stands below (map line lines.entry.items)) }
 {
     let mut below = Below {
+        others: Vec::new(alloc),
         leaves: Vec::new(alloc),
         rules: Vec::new(alloc),
         items: Vec::new(alloc),

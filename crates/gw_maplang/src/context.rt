@@ -12,7 +12,7 @@ use indexmap::{IndexMap, IndexSet};
 use std::alloc::{AllocError, Global};
 
 /// What is open: whether the language is the second, whether a row would belong to a table, and how many groups and flats are open. `has_item`: there was an item.
-/// `hollow`: the innermost open part is a flat that has no item so far.
+/// `hollow`: the innermost open part is a flat that has no item so far. `led`: a leaf stands right above, which another may follow.
 #[derive(Clone, Copy, Drop)]
 pub(crate) struct OpenParts {
     pub(crate) second: bool,
@@ -20,6 +20,7 @@ pub(crate) struct OpenParts {
     pub(crate) has_item: bool,
     pub(crate) depth: u32,
     pub(crate) hollow: bool,
+    pub(crate) led: bool,
 }
 
 pub(crate) const NOTHING_OPEN: OpenParts = OpenParts {
@@ -28,6 +29,7 @@ pub(crate) const NOTHING_OPEN: OpenParts = OpenParts {
     has_item: false,
     depth: 0,
     hollow: false,
+    led: false,
 };
 
 /// A segment that may have rules below it: the least number of a field, and the fields that have a rule.
@@ -44,6 +46,16 @@ pub(crate) struct OpenRule {
     pub(crate) places: IndexSet<LeafPlace>,
 }
 
+// Whether there is a leaf on the line of the rule.
+fn has_leaf(made: &Rule) -> bool
+    ensures { result ≡ spec.has_leaf (spec.own_leaf (rule made.now).making) }
+{
+    match made {
+        Rule::Build(build) => !build.leaves.is_empty(),
+        _ => false,
+    }
+}
+
 /// What is open after this line.
 pub(crate) fn open_parts_below(held: OpenParts, whole: &Line) -> OpenParts
     requires { HasRoom held.depth (line whole.now) }
@@ -52,6 +64,7 @@ pub(crate) fn open_parts_below(held: OpenParts, whole: &Line) -> OpenParts
     let held_in_table = held.in_table;
     let held = OpenParts {
         in_table: false,
+        led: false,
         ..held
     };
     match whole {
@@ -76,6 +89,11 @@ pub(crate) fn open_parts_below(held: OpenParts, whole: &Line) -> OpenParts
             hollow: false,
             ..held
         },
+        Line::Makes(rule) => OpenParts {
+            led: has_leaf(rule),
+            ..held
+        },
+        Line::At(_) | Line::Or(_) => OpenParts { led: true, ..held },
         Line::Each(_, label, _) => OpenParts {
             has_item: true,
             depth: held.depth + 1,
@@ -122,7 +140,7 @@ pub(crate) fn segment_below(
             Ok(())
         }
         Line::Makes(rule) => with_field(rule.field(), held),
-        Line::At(_) => Ok(()),
+        Line::At(_) | Line::Or(_) => Ok(()),
         _ => {
             *held = None;
             Ok(())
@@ -180,6 +198,7 @@ pub(crate) fn rule_below(
             Ok(())
         }
         Line::At(leaf) => with_place(leaf.place, held),
+        Line::Or(_) => Ok(()),
         _ => {
             *held = None;
             Ok(())

@@ -5,12 +5,14 @@ ghost use Rattle.gw_lines.specs.Seen.{word};
 ghost use Rattle.gw_lines.specs.Parts.{with_all};
 ghost use Rattle.gw_lines.specs.Values.{bytes_of};
 ghost use Rattle.gw_maplang.specs.Line as spec;
-ghost use Rattle.gw_maplang.specs.Seen.{line, now, now_all, path, path_some, field_path, ref, leaf, leaf_value, condition, condition_some, dropped};
+ghost use Rattle.gw_maplang.specs.Seen.{line, now, now_all, path, field_path, ref, leaf, alternative, leaf_value, condition, condition_some, field_condition, field_condition_some, walk, walk_some, dropped};
 
-use crate::parts::{copies, drop_of, field_path, is_table_word, path_of, place_of, ref_of};
+use crate::parts::{
+    copies, drop_of, field_path, field_place, is_table_word, path_of, place_of, ref_of,
+};
 use crate::rule::{
-    BuildRule, Condition, CopyRule, Dropped, FieldPath, FirstRule, Leaf, LeafPlace, LeafRule, Ref,
-    RepeatRule, Rule,
+    Alternative, BuildRule, Condition, CopyRule, Dropped, FieldCondition, FieldPath, FirstRule,
+    Leaf, LeafPlace, LeafRule, Ref, RepeatRule, Rule, Walk,
 };
 use gw_lines::{Word, behind, bytes_of, first_word, name_at, number, number_at};
 use std::alloc::{AllocError, Global};
@@ -18,7 +20,7 @@ use std::alloc::{AllocError, Global};
 // The greatest number of a table's columns.
 const MAX_COLUMNS: usize = 9;
 
-/// A line of a map. A rule has only the leaf of its own line. An `each` line without a label is a `flat`.
+/// A line of a map. A rule has only the leaf of its own line, and a leaf no others. An `each` line without a label is a `flat`.
 #[derive(Drop)]
 pub(crate) enum Line<'a> {
     Begins(u32, &'a [u8], &'a [u8], &'a [u8]),
@@ -26,10 +28,11 @@ pub(crate) enum Line<'a> {
     Table(&'a [u8]),
     Rows(&'a [u8], Vec<&'a [u8]>),
     Else(Vec<&'a [u8]>),
-    Segment(u32, &'a [u8], Option<Vec<Vec<u8>>>),
+    Segment(u32, &'a [u8], Option<Walk>),
     Makes(Rule),
     At(LeafRule),
-    Each(u32, Option<&'a [u8]>, Vec<Vec<u8>>),
+    Or(Alternative),
+    Each(u32, Option<&'a [u8]>, Walk),
     End,
     Drops(Dropped),
 }
@@ -238,6 +241,79 @@ fn condition_at(alloc: Global, words: &[Word]) -> Result<Option<Option<Condition
     }
 }
 
+fn field_place_at<'a, 'w>(
+    alloc: Global,
+    words: &'w [Word<'a>],
+) -> Result<Option<((FieldPath, LeafPlace), &'w [Word<'a>])>, AllocError>
+    ensures { IfOk result (λ found. option_map (λ w. ((field_path w.0.0, w.0.1), map word w.1.now)) found ≡ spec.plain_at spec.field_place (map word words.now)) }
+{
+    let Some((bytes, more)) = plain_word(words) else {
+        return Ok(None);
+    };
+    match field_place(alloc, bytes)? {
+        None => Ok(None),
+        Some(asked) => Ok(Some((asked, more))),
+    }
+}
+
+// The field and the place that a condition on occurrences asks for, and what stands behind them.
+fn asked_at<'a, 'w>(
+    alloc: Global,
+    words: &'w [Word<'a>],
+) -> Result<Option<((FieldPath, LeafPlace), &'w [Word<'a>])>, AllocError>
+    ensures { IfOk result (λ found. option_map (λ w. ((field_path w.0.0, w.0.1), map word w.1.now)) found ≡ spec.asked_at (map word words.now)) }
+{
+    match behind(b"where", words) {
+        None => Ok(None),
+        Some(more) => field_place_at(alloc, more),
+    }
+}
+
+fn field_condition_form(alloc: Global, words: &[Word]) -> Result<Option<FieldCondition>, AllocError>
+    ensures { IfOk result (λ found. option_map field_condition found ≡ spec.field_condition_form (map word words.now)) }
+{
+    let Some(((from, place), more)) = asked_at(alloc, words)? else {
+        return Ok(None);
+    };
+    let Some(more) = behind(b"is", more) else {
+        return Ok(None);
+    };
+    let Some(values) = all_texts(alloc, more)? else {
+        return Ok(None);
+    };
+    let values = copies(alloc, &values)?;
+    let condition = Condition { place, values };
+    Ok(Some(FieldCondition { from, condition }))
+}
+
+// The condition on occurrences that these words are, none if there is no word.
+fn field_condition_at(
+    alloc: Global,
+    words: &[Word],
+) -> Result<Option<Option<FieldCondition>>, AllocError>
+    ensures { IfOk result (λ found. option_map field_condition_some found ≡ spec.field_condition_at (map word words.now)) }
+{
+    if words.is_empty() {
+        return Ok(Some(None));
+    }
+    match field_condition_form(alloc, words)? {
+        None => Ok(None),
+        Some(asked) => Ok(Some(Some(asked))),
+    }
+}
+
+fn walk_form(alloc: Global, words: &[Word]) -> Result<Option<Walk>, AllocError>
+    ensures { IfOk result (λ found. walk_some found ≡ spec.walk_form (map word words.now)) }
+{
+    let Some((path, more)) = path_at(alloc, words)? else {
+        return Ok(None);
+    };
+    let Some(condition) = field_condition_at(alloc, more)? else {
+        return Ok(None);
+    };
+    Ok(Some(Walk { path, condition }))
+}
+
 fn const_form(alloc: Global, words: &[Word]) -> Result<Option<Leaf>, AllocError>
     ensures { IfOk result (λ found. option_map leaf found ≡ spec.const_form (map word words.now)) }
 {
@@ -365,6 +441,7 @@ fn own_leaves(alloc: Global, at: u32, words: &[Word]) -> Result<Option<Vec<LeafR
         line: at,
         place,
         leaf,
+        others: Vec::new(alloc),
     })?;
     Ok(Some(leaves))
 }
@@ -425,21 +502,25 @@ fn else_form<'a>(alloc: Global, words: &[Word<'a>]) -> Result<Option<Line<'a>>, 
     }
 }
 
-fn source_at<'a, 'w>(
-    alloc: Global,
-    words: &'w [Word<'a>],
-) -> Result<Option<(Option<Vec<Vec<u8>>>, &'w [Word<'a>])>, AllocError>
-    ensures { IfOk result (λ found. option_map (λ w. (path_some w.0, map word w.1.now)) found ≡ spec.source_at (map word words.now)) }
+// A segment that is always made: nothing is walked.
+fn always_form(words: &[Word]) -> Option<Option<Walk>>
+    ensures { option_map walk_some result ≡ spec.always_form (map word words.now) }
+{
+    match behind(b"always", words)? {
+        [] => Some(None),
+        [_, ..] => None,
+    }
+}
+
+fn source_form(alloc: Global, words: &[Word]) -> Result<Option<Option<Walk>>, AllocError>
+    ensures { IfOk result (λ found. option_map walk_some found ≡ spec.source_form (map word words.now)) }
 {
     let Some(more) = behind(b"from", words) else {
-        return match behind(b"always", words) {
-            None => Ok(None),
-            Some(more) => Ok(Some((None, more))),
-        };
+        return Ok(always_form(words));
     };
-    match path_at(alloc, more)? {
+    match walk_form(alloc, more)? {
         None => Ok(None),
-        Some((path, more)) => Ok(Some((Some(path), more))),
+        Some(walk) => Ok(Some(Some(walk))),
     }
 }
 
@@ -453,9 +534,9 @@ fn segment_form<'a>(
     let Some((label, more)) = name_at(words) else {
         return Ok(None);
     };
-    match source_at(alloc, more)? {
+    match source_form(alloc, more)? {
         None => Ok(None),
-        Some((source, more)) => Ok(with_all(more, Line::Segment(at, label, source))),
+        Some(source) => Ok(Some(Line::Segment(at, label, source))),
     }
 }
 
@@ -564,7 +645,17 @@ fn at_form<'a>(alloc: Global, at: u32, words: &[Word]) -> Result<Option<Line<'a>
             line: at,
             place,
             leaf,
+            others: Vec::new(alloc),
         }))),
+    }
+}
+
+fn or_form<'a>(alloc: Global, at: u32, words: &[Word]) -> Result<Option<Line<'a>>, AllocError>
+    ensures { IfOk result (λ found. option_map line found ≡ spec.or_form at (map word words.now)) }
+{
+    match leaf_form(alloc, words)? {
+        None => Ok(None),
+        Some(leaf) => Ok(Some(Line::Or(Alternative { line: at, leaf }))),
     }
 }
 
@@ -579,9 +670,9 @@ fn each_form<'a>(
     let Some(more) = behind(b"each", words) else {
         return Ok(None);
     };
-    match path_at(alloc, more)? {
+    match walk_form(alloc, more)? {
         None => Ok(None),
-        Some((path, more)) => Ok(with_all(more, Line::Each(at, label, path))),
+        Some(walk) => Ok(Some(Line::Each(at, label, walk))),
     }
 }
 
@@ -629,6 +720,9 @@ fn rule_form<'a>(
     }
     if keyword.is(b"at") {
         return at_form(alloc, at, more);
+    }
+    if keyword.is(b"or") {
+        return or_form(alloc, at, more);
     }
     Ok(None)
 }

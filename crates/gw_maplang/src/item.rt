@@ -1,13 +1,13 @@
 //! The items of a map: what it makes of the segments and groups of a message.
 
-use crate::rule::Rule;
+use crate::rule::{Rule, Walk};
 
-/// `segment LABEL from PATH`: one segment of the target for each occurrence to which the path leads.
+/// `segment LABEL from PATH`: one segment of the target for each occurrence that is walked.
 #[derive(Drop)]
 pub struct FromItem {
     pub line: u32,
     pub label: Vec<u8>,
-    pub path: Vec<Vec<u8>>,
+    pub walk: Walk,
     pub rules: Vec<Rule>,
 }
 
@@ -19,22 +19,22 @@ pub struct AlwaysItem {
     pub rules: Vec<Rule>,
 }
 
-/// `group LABEL each PATH`: one group of the target for each occurrence to which the path leads.
+/// `group LABEL each PATH`: one group of the target for each occurrence that is walked.
 #[derive(Drop)]
 #[cycle(item)]
 pub struct GroupItem {
     pub line: u32,
     pub label: Vec<u8>,
-    pub path: Vec<Vec<u8>>,
+    pub walk: Walk,
     pub items: Vec<Item>,
 }
 
-/// `flat each PATH`: its items for each occurrence to which the path leads, without a group around them.
+/// `flat each PATH`: its items for each occurrence that is walked, without a group around them.
 #[derive(Drop)]
 #[cycle(item)]
 pub struct FlatItem {
     pub line: u32,
-    pub path: Vec<Vec<u8>>,
+    pub walk: Walk,
     pub items: Vec<Item>,
 }
 

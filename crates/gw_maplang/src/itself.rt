@@ -4,12 +4,12 @@ ghost use Rattle.gw_profile.specs.Line.{is_forbidden};
 ghost use Rattle.gw_profile.specs.Seen.{field as field_value, forest, profile_value};
 ghost use Rattle.gw_maplang.specs.Identity as spec;
 ghost use Rattle.gw_maplang.specs.Identity.{IsSame, IsSameSegment, IsSameGroup, with_some};
-ghost use Rattle.gw_maplang.specs.Seen.{rule, path, all_items, map_value};
+ghost use Rattle.gw_maplang.specs.Seen.{rule, path, walk, all_items, map_value};
 
 use crate::build::{group_item, segment_item};
 use crate::item::Item;
 use crate::map::Map;
-use crate::rule::{CopyRule, FieldPath, Rule};
+use crate::rule::{CopyRule, FieldPath, Rule, Walk};
 use gw_profile::{FieldShape, Node, Profile, SegNode, Usage};
 use indexmap::IndexMap;
 use std::alloc::{AllocError, Global};
@@ -39,6 +39,17 @@ fn path_to(alloc: Global, label: &[u8]) -> Result<Vec<Vec<u8>>, AllocError>
     let mut all = Vec::new(alloc);
     all.push(only)?;
     Ok(all)
+}
+
+// All occurrences of the node of this label.
+fn walk_all(alloc: Global, label: &[u8]) -> Result<Walk, AllocError>
+    ensures { IfOk result (λ w. walk w ≡ spec.walk_all label.now) }
+{
+    let path = path_to(alloc, label)?;
+    Ok(Walk {
+        path,
+        condition: None,
+    })
 }
 
 // A rule that copies the field.
@@ -78,7 +89,7 @@ fn same_segment(alloc: Global, segment: &SegNode) -> Result<Option<Item>, AllocE
         return Ok(None);
     }
     let rules = field_rules(alloc, &segment.label, &segment.fields)?;
-    let source = path_to(alloc, &segment.label)?;
+    let source = walk_all(alloc, &segment.label)?;
     let label = copy_of(alloc, &segment.label)?;
     Ok(Some(segment_item(0, label, Some(source), rules)))
 }
@@ -100,9 +111,9 @@ fn same_group(alloc: Global, label: &[u8], nodes: &[Node]) -> Result<Option<Item
     ensures { IfOk result (λ item. IsSameGroup item label.now nodes.now) }
 {
     let items = same_items(alloc, nodes)?;
-    let from = path_to(alloc, label)?;
+    let walk = walk_all(alloc, label)?;
     let label = copy_of(alloc, label)?;
-    Ok(Some(group_item(0, label, from, items)))
+    Ok(Some(group_item(0, label, walk, items)))
 }
 
 #[cycle(same)]

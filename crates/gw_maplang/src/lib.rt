@@ -23,8 +23,8 @@ pub use itself::identity;
 pub use map::Map;
 pub use patterns::expected;
 pub use rule::{
-    BuildRule, Condition, CopyRule, Dropped, FieldPath, FirstRule, Leaf, LeafPlace, LeafRule, Ref,
-    RepeatRule, Rule,
+    Alternative, BuildRule, Condition, CopyRule, Dropped, FieldCondition, FieldPath, FirstRule,
+    Leaf, LeafPlace, LeafRule, Ref, RepeatRule, Rule, Walk,
 };
 pub use table::Table;
 pub use text::parse;

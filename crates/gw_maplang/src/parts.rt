@@ -185,8 +185,12 @@ fn place_or_first(said: Option<&[u8]>) -> Option<LeafPlace>
     }
 }
 
-fn field_ref(alloc: Global, bytes: &[u8]) -> Result<Option<Ref>, AllocError>
-    ensures { IfOk result (λ r. ref_some r ≡ spec.field_ref bytes.now) }
+/// A field, and a place in it; the first place if none is given.
+pub(crate) fn field_place(
+    alloc: Global,
+    bytes: &[u8],
+) -> Result<Option<(FieldPath, LeafPlace)>, AllocError>
+    ensures { IfOk result (λ found. option_map (λ f. (field_path f.0, f.1)) found ≡ spec.field_place bytes.now) }
 {
     let Some(from) = field_path(alloc, before_first_byte(b'.', bytes))? else {
         return Ok(None);
@@ -194,7 +198,16 @@ fn field_ref(alloc: Global, bytes: &[u8]) -> Result<Option<Ref>, AllocError>
     let Some(place) = place_or_first(after_first_byte(b'.', bytes)) else {
         return Ok(None);
     };
-    Ok(Some(Ref::Field(from, place)))
+    Ok(Some((from, place)))
+}
+
+fn field_ref(alloc: Global, bytes: &[u8]) -> Result<Option<Ref>, AllocError>
+    ensures { IfOk result (λ r. ref_some r ≡ spec.field_ref bytes.now) }
+{
+    match field_place(alloc, bytes)? {
+        None => Ok(None),
+        Some((from, place)) => Ok(Some(Ref::Field(from, place))),
+    }
 }
 
 fn current(place: Option<LeafPlace>) -> Option<Ref>

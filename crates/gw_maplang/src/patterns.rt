@@ -7,18 +7,48 @@ ghost use Rattle.gw_maplang.specs.Patterns as spec;
 use gw_lines::{Expected, keyword_of, line_at, lines_of};
 use std::alloc::{AllocError, Global};
 
+// The pattern of the `segment` lines of a map in the second language, or in the first.
+fn segment_pattern(second: bool) -> &'static [u8]
+    ensures { result.now ≡ spec.segment_pattern second }
+{
+    if second {
+        return b"segment LABEL from PATH [where REF is VALUE ..], or segment LABEL always";
+    }
+    b"segment LABEL from PATH, or segment LABEL always"
+}
+
+// The pattern of the `group` lines of a map in the second language, or in the first.
+fn group_pattern(second: bool) -> &'static [u8]
+    ensures { result.now ≡ spec.group_pattern second }
+{
+    if second {
+        return b"group LABEL each PATH [where REF is VALUE ..]";
+    }
+    b"group LABEL each PATH"
+}
+
+// The pattern of the `flat` lines of a map in the second language, or in the first.
+fn flat_pattern(second: bool) -> &'static [u8]
+    ensures { result.now ≡ spec.flat_pattern second }
+{
+    if second {
+        return b"flat each PATH [where REF is VALUE ..]";
+    }
+    b"flat each PATH"
+}
+
 // The pattern of the item lines with this keyword; all keywords for any other word.
-fn item_pattern(keyword: &[u8]) -> &'static [u8]
-    ensures { result.now ≡ spec.item_pattern keyword.now }
+fn item_pattern(second: bool, keyword: &[u8]) -> &'static [u8]
+    ensures { result.now ≡ spec.item_pattern second keyword.now }
 {
     if keyword == b"segment".as_slice() {
-        return b"segment LABEL from PATH, or segment LABEL always";
+        return segment_pattern(second);
     }
     if keyword == b"group".as_slice() {
-        return b"group LABEL each PATH";
+        return group_pattern(second);
     }
     if keyword == b"flat".as_slice() {
-        return b"flat each PATH";
+        return flat_pattern(second);
     }
     if keyword == b"end".as_slice() {
         return b"end, of a group, or of a flat with an item";
@@ -68,7 +98,7 @@ fn rule_pattern(second: bool, keyword: &[u8]) -> &'static [u8]
     if keyword == b"at".as_slice() {
         return b"at C[.S] LEAF, below repeat or build";
     }
-    item_pattern(keyword)
+    item_pattern(second, keyword)
 }
 
 // The pattern of the `row` lines of a map in the second language, or in the first.
@@ -91,6 +121,16 @@ fn else_pattern(second: bool) -> &'static [u8]
     b"else VALUE, below a table"
 }
 
+// The pattern of the `or` lines of a map in the second language; all keywords in the first.
+fn or_pattern(second: bool) -> &'static [u8]
+    ensures { result.now ≡ spec.or_pattern second }
+{
+    if second {
+        return b"or LEAF, below at or build with a LEAF";
+    }
+    item_pattern(false, b"or")
+}
+
 // The pattern of the lines with this keyword; all keywords for any other word.
 fn pattern(second: bool, keyword: &[u8]) -> &'static [u8]
     ensures { result.now ≡ spec.pattern second keyword.now }
@@ -109,6 +149,9 @@ fn pattern(second: bool, keyword: &[u8]) -> &'static [u8]
     }
     if keyword == b"else".as_slice() {
         return else_pattern(second);
+    }
+    if keyword == b"or".as_slice() {
+        return or_pattern(second);
     }
     rule_pattern(second, keyword)
 }

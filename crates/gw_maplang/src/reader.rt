@@ -9,7 +9,7 @@ ghost use Rattle.gw_maplang.specs.Columns.{wide_row_of};
 ghost use Rattle.gw_maplang.specs.Fault as spec;
 ghost use Rattle.gw_maplang.specs.Line as form;
 ghost use Rattle.gw_lines.specs.Grammar.{Taken};
-ghost use Rattle.gw_maplang.specs.Seen.{line, above, now_all, items_all, rule, condition_now, leaf, leaf_value, wide_table, open_segment, open_rule, map_value, IsNewField, IsNewPlace, IsNewTable};
+ghost use Rattle.gw_maplang.specs.Seen.{line, above, now_all, items_all, rule, condition_now, field_condition_some, walk_some, leaf, leaf_value, wide_table, open_segment, open_rule, map_value, IsNewField, IsNewPlace, IsNewTable};
 ghost use Rattle.gw_maplang.specs.Whole.{whole, is_unclosed, map_of};
 
 use crate::columns::Wide;
@@ -21,7 +21,7 @@ use crate::fault::MapFault;
 use crate::form::{Line, form};
 use crate::map::Map;
 use crate::parts::after_first_byte;
-use crate::rule::{Condition, Leaf, LeafPlace, LeafRule, Ref, Rule};
+use crate::rule::{Condition, FieldCondition, Leaf, LeafPlace, LeafRule, Ref, Rule, Walk};
 use crate::whole::map_of;
 use gw_er7::is_canonical;
 use gw_lines::{Form, Word};
@@ -129,6 +129,26 @@ fn own_leaf(made: &Rule) -> &[LeafRule]
     }
 }
 
+// What a condition asks of its field.
+fn asked_of(asked: &Option<FieldCondition>) -> Option<&Condition>
+    ensures { condition_now result ≡ spec.asked_of (field_condition_some asked.now) }
+{
+    match asked {
+        None => None,
+        Some(asked) => Some(&asked.condition),
+    }
+}
+
+// The same of what the line of a segment walks.
+fn condition_in(source: &Option<Walk>) -> Option<&Condition>
+    ensures { condition_now result ≡ spec.condition_in (walk_some source.now) }
+{
+    match source {
+        None => None,
+        Some(walk) => asked_of(&walk.condition),
+    }
+}
+
 fn is_hasty(second: bool, asked: Option<&Condition>) -> bool
     ensures { result ≡ spec.is_hasty second (condition_now asked.entry) }
 {
@@ -191,6 +211,15 @@ fn any_bad(leaves: &[LeafRule]) -> bool
     false
 }
 
+fn is_bad_rule(made: &Rule) -> bool
+    ensures { result ≡ spec.is_bad_rule (rule made.now) }
+{
+    if is_bad_condition(made.condition()) {
+        return true;
+    }
+    any_bad(own_leaf(made))
+}
+
 fn is_misplaced(field: u32, held: &Option<OpenSegment>) -> bool
     ensures { result ≡ spec.is_misplaced field (open_segment held.now) }
 {
@@ -215,6 +244,16 @@ fn is_misplaced_leaf(made: &Leaf, held: &Option<OpenRule>) -> bool
     match held {
         None => true,
         Some(rule) => is_stray(rule.repeated, made),
+    }
+}
+
+// Whether the open rule is a `repeat`.
+fn is_repeated(held: &Option<OpenRule>) -> bool
+    ensures { result ≡ spec.is_repeated (open_rule held.now) }
+{
+    match held {
+        None => false,
+        Some(rule) => rule.repeated,
     }
 }
 
@@ -311,31 +350,48 @@ impl<'a> Reader<'a> {
         None
     }
 
-    fn segment_fault(&self, at: u32) -> Option<MapFault>
-        ensures { result ≡ first_of (spec.segment_tests self.now at) }
+    fn segment_fault(&self, at: u32, asked: Option<&Condition>) -> Option<MapFault>
+        ensures { result ≡ first_of (spec.segment_tests self.now at (condition_now asked.entry)) }
     {
-        if self.lines.is_empty() {
-            Some(MapFault::Syntax(at))
-        } else {
-            None
+        if self.lines.is_empty() || is_hasty(self.open_parts.second, asked) {
+            return Some(MapFault::Syntax(at));
         }
+        if is_bad_condition(asked) {
+            return Some(MapFault::BadConstant(at));
+        }
+        None
+    }
+
+    // Whether no segment above can hold the rule, or the language of the map has no such rule.
+    fn is_misplaced_rule(&self, made: &Rule) -> bool
+        ensures { result ≡ spec.is_misplaced_rule self.now (rule made.now) }
+    {
+        let second = self.open_parts.second;
+        if is_misplaced(made.field(), &self.segment) {
+            return true;
+        }
+        if is_hasty(second, made.condition()) {
+            return true;
+        }
+        any_stray(second, own_leaf(made))
+    }
+
+    fn is_unknown_rule(&self, made: &Rule) -> bool
+        ensures { result ≡ spec.is_unknown_rule self.now (rule made.now) }
+    {
+        any_unknown(&self.tables, own_leaf(made))
     }
 
     fn rule_fault(&self, at: u32, made: &Rule) -> Option<MapFault>
         ensures { result ≡ first_of (spec.rule_tests self.now at (rule made.now)) }
     {
-        let own = own_leaf(made);
-        let asked = made.condition();
-        if is_misplaced(made.field(), &self.segment)
-            || is_hasty(self.open_parts.second, asked)
-            || any_stray(self.open_parts.second, own)
-        {
+        if self.is_misplaced_rule(made) {
             return Some(MapFault::Syntax(at));
         }
-        if any_unknown(&self.tables, own) {
+        if self.is_unknown_rule(made) {
             return Some(MapFault::UnknownTable(at));
         }
-        if is_bad_condition(asked) || any_bad(own) {
+        if is_bad_rule(made) {
             return Some(MapFault::BadConstant(at));
         }
         if is_made(made.field(), &self.segment) {
@@ -364,11 +420,32 @@ impl<'a> Reader<'a> {
         None
     }
 
-    fn each_fault(&self, at: u32) -> Option<MapFault>
-        ensures { result ≡ first_of (spec.each_tests self.now at) }
+    fn or_fault(&self, at: u32, made: &Leaf) -> Option<MapFault>
+        ensures { result ≡ first_of (spec.or_tests self.now at (leaf made.now)) }
     {
-        if self.lines.is_empty() {
+        if !self.open_parts.second
+            || !self.open_parts.led
+            || is_stray(is_repeated(&self.rule), made)
+        {
             return Some(MapFault::Syntax(at));
+        }
+        if is_unknown(&self.tables, made) {
+            return Some(MapFault::UnknownTable(at));
+        }
+        if is_bad(made) {
+            return Some(MapFault::BadConstant(at));
+        }
+        None
+    }
+
+    fn each_fault(&self, at: u32, asked: Option<&Condition>) -> Option<MapFault>
+        ensures { result ≡ first_of (spec.each_tests self.now at (condition_now asked.entry)) }
+    {
+        if self.lines.is_empty() || is_hasty(self.open_parts.second, asked) {
+            return Some(MapFault::Syntax(at));
+        }
+        if is_bad_condition(asked) {
+            return Some(MapFault::BadConstant(at));
         }
         if self.open_parts.depth >= MAX_NESTED {
             return Some(MapFault::TooDeep(at));
@@ -406,10 +483,11 @@ impl<'a> Reader<'a> {
             Line::Table(name) => self.table_fault(at, name),
             Line::Rows(first, seconds) => self.row_fault(at, first, seconds),
             Line::Else(values) => self.else_fault(at, values),
-            Line::Segment(_, _, _) => self.segment_fault(at),
+            Line::Segment(_, _, source) => self.segment_fault(at, condition_in(source)),
             Line::Makes(rule) => self.rule_fault(at, rule),
             Line::At(leaf) => self.leaf_fault(at, leaf),
-            Line::Each(_, _, _) => self.each_fault(at),
+            Line::Or(other) => self.or_fault(at, &other.leaf),
+            Line::Each(_, _, walk) => self.each_fault(at, asked_of(&walk.condition)),
             Line::End => self.end_fault(at),
             Line::Drops(_) => self.drop_fault(at),
         }

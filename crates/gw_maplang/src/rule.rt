@@ -33,12 +33,20 @@ pub enum Leaf {
     Date(u32, Ref),
 }
 
-/// A leaf, and the place in the field that it fills.
+/// `or`: a leaf that stands for those above it of its place.
+#[derive(Drop)]
+pub struct Alternative {
+    pub line: u32,
+    pub leaf: Leaf,
+}
+
+/// A leaf, and the place in the field that it fills. If it gives no text, the first of the others that gives one fills it.
 #[derive(Drop)]
 pub struct LeafRule {
     pub line: u32,
     pub place: LeafPlace,
     pub leaf: Leaf,
+    pub others: Vec<Alternative>,
 }
 
 /// Some repetitions of a field: those whose text at the place is one of the values.
@@ -46,6 +54,20 @@ pub struct LeafRule {
 pub struct Condition {
     pub place: LeafPlace,
     pub values: Vec<Vec<u8>>,
+}
+
+/// Some occurrences of a segment or group: those where the first repetition of a field, read within each, meets the condition.
+#[derive(Drop)]
+pub struct FieldCondition {
+    pub from: FieldPath,
+    pub condition: Condition,
+}
+
+/// The occurrences to which a path leads, or those of them that meet the condition.
+#[derive(Drop)]
+pub struct Walk {
+    pub path: Vec<Vec<u8>>,
+    pub condition: Option<FieldCondition>,
 }
 
 /// A field that is copied as it is.

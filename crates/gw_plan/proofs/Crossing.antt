@@ -17,6 +17,7 @@ use Rattle.gw_maplang.specs.contracts.item.Item as RawItem
 use Rattle.gw_maplang.specs.contracts.map.Map as Map
 use Rattle.gw_resolve.proofs.resolved.Item.TheLaws.TheKnot as resolved
 use Rattle.gw_resolve.proofs.resolved.SegmentItem.TheSendSync as item
+use Rattle.gw_resolve.proofs.resolved.FieldCondition.TheSendSync as asked
 use Rattle.gw_resolve.specs.contracts.resolved.Item as Item
 use Rattle.gw_check.specs.contracts.checked.CheckedMap as CheckedMap
 use Rattle.gw_validate.proofs.occurrences.Occurrences.TheLaws.TheKnot as occurrences
@@ -58,10 +59,10 @@ Map-sync : IsSync (Map.the_field).row
 Map-sync = search (RawItem-sync, rows.the_sync, dropped.the_sync, maps.crosses, crosses, sendable) depth 60 fits 50000
 
 Item-send : IsSend (Item.the_field).row
-Item-send = resolved.send-Item item.the_field_send (search (crosses, sendable) depth 20) (search (crosses, sendable) depth 20) (λ h s. Vec-send h s) (search (crosses, sendable) depth 20)
+Item-send = resolved.send-Item item.the_field_send (search (crosses, sendable) depth 20) (search (crosses, sendable) depth 20) (search (asked.the_send, crosses, sendable) depth 20) (λ h s. Vec-send h s) (search (crosses, sendable) depth 20)
 
 Item-sync : IsSync (Item.the_field).row
-Item-sync = resolved.sync-Item item.the_field_sync (search (crosses, sendable) depth 20) (search (crosses, sendable) depth 20) (λ h s. Vec-sync h s) (search (crosses, sendable) depth 20)
+Item-sync = resolved.sync-Item item.the_field_sync (search (crosses, sendable) depth 20) (search (crosses, sendable) depth 20) (search (asked.the_sync, crosses, sendable) depth 20) (λ h s. Vec-sync h s) (search (crosses, sendable) depth 20)
 
 CheckedMap-send : IsSend (CheckedMap.the_field).row
 CheckedMap-send = search (Profile-send, Profile-sync, Map-send, Item-send, crosses, sendable) depth 60 fits 50000

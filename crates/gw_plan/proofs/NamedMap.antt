@@ -10,8 +10,8 @@ use Rattle.gw_lines.proofs.Taken.{taken_by, spelled_accepts}
 use Rattle.gw_maplang.specs.declared.fault.MapFault.{MapFault}
 use Rattle.gw_maplang.specs.declared.fault.MapFault.TheVariants.{Syntax, TooLarge}
 use Rattle.gw_maplang.specs.Shapes.{MapValue}
-use Rattle.gw_maplang.specs.Line.{Line, Begins, Language, Table, Rows, Else, Segment, Makes, At, Each, End, Drops, path_of, place_of, drop_of, plain_at, text_at, some_texts, source_at, made_from, chosen_from, own_leaves}
-use Rattle.gw_maplang.specs.Line.{leaf_form, map_form, language_form, table_form, row_form, else_form, segment_form, copies_form, firsts_form, repeats_form, builds_form, at_form, each_form, group_form}
+use Rattle.gw_maplang.specs.Line.{Line, Begins, Language, Table, Rows, Else, Segment, Makes, At, Or, Each, End, Drops, place_of, drop_of, plain_at, text_at, some_texts, source_form, walk_form, made_from, chosen_from, own_leaves}
+use Rattle.gw_maplang.specs.Line.{leaf_form, map_form, language_form, table_form, row_form, else_form, segment_form, copies_form, firsts_form, repeats_form, builds_form, at_form, or_form, each_form, group_form}
 use Rattle.gw_maplang.specs.Line.{drop_form, rule_form, form}
 use Rattle.gw_maplang.specs.Fault.{grammar, tests, takes}
 use Rattle.gw_maplang.specs.Value.{head}
@@ -36,7 +36,8 @@ Says ws (Else value) = Unit {0}
 Says ws (Segment at label source) = Unit {0}
 Says ws (Makes rule) = Unit {0}
 Says ws (At leaf) = Unit {0}
-Says ws (Each at label path) = Unit {0}
+Says ws (Or other) = Unit {0}
+Says ws (Each at label walk) = Unit {0}
 Says ws End = Unit {0}
 Says ws (Drops drop) = Unit {0}
 
@@ -84,7 +85,7 @@ module _ {A : Type 0} (ws : List Word) (o : Option A) (f : A → Option Line) wh
   after h = gives (λ _. Unit {0}) (Says ws) o f (any o) (λ x u. h x)
 
 each_says : (ws : List Word) (at : ℕ) (label : Option (List ℕ)) (more : List Word) → IfSome (each_form at label more) (Says ws)
-each_says ws at label more = after ws (behind (codes "each") more) _ (λ m. after ws (plain_at path_of m) _ (λ p. with_all_is (Says ws) p.1 (Each at label p.0) tt))
+each_says ws at label more = after ws (behind (codes "each") more) _ (λ m. after ws (walk_form m) _ (λ w. tt))
 
 rule_says : (at : ℕ) (w : Word) (more : List Word) → IfSome (rule_form at w more) (Says (w ∷ more))
 rule_says at w more =
@@ -93,7 +94,8 @@ rule_says at w more =
     (either_gives P (is_keyword (codes "first") w) (firsts_form at more) _ (map_gives (λ _. Unit {0}) P (chosen_from more) _ (any (chosen_from more)) (λ m u. tt))
     (either_gives P (is_keyword (codes "repeat") w) (repeats_form at more) _ (map_gives (λ _. Unit {0}) P (chosen_from more) _ (any (chosen_from more)) (λ m u. tt))
     (either_gives P (is_keyword (codes "build") w) (builds_form at more) _ (after (w ∷ more) (number_at 999 more) _ (λ n. after (w ∷ more) (own_leaves at n.1) _ (λ l. tt)))
-    (either_gives P (is_keyword (codes "at") w) (at_form at more) None (after (w ∷ more) (plain_at place_of more) _ (λ p. after (w ∷ more) (leaf_form p.1) _ (λ l. tt))) tt))))
+    (either_gives P (is_keyword (codes "at") w) (at_form at more) _ (after (w ∷ more) (plain_at place_of more) _ (λ p. after (w ∷ more) (leaf_form p.1) _ (λ l. tt)))
+    (either_gives P (is_keyword (codes "or") w) (or_form at more) None (map_gives (λ _. Unit {0}) P (leaf_form more) _ (any (leaf_form more)) (λ l u. tt)) tt)))))
 
 form_says : (at : ℕ) (ws : List Word) → IfSome (form at ws) (Says ws)
 form_says at [] = tt
@@ -104,8 +106,7 @@ form_says at (w ∷ more) =
     (either_gives P (is_keyword (codes "table") w) (table_form more) _ (after (w ∷ more) (name_at more) _ (λ n. with_all_is P n.1 (Table n.0) tt))
     (either_gives P (is_keyword (codes "row") w) (row_form more) _ (after (w ∷ more) (text_at more) _ (λ a. after (w ∷ more) (some_texts a.1) _ (λ b. tt)))
     (either_gives P (is_keyword (codes "else") w) (else_form more) _ (after (w ∷ more) (some_texts more) _ (λ a. tt))
-    (either_gives P (is_keyword (codes "segment") w) (segment_form at more) _ (after (w ∷ more) (name_at more) _ (λ l. after (w ∷ more) (source_at l.1) _
-    (λ s. with_all_is P s.1 (Segment at l.0 s.0) tt)))
+    (either_gives P (is_keyword (codes "segment") w) (segment_form at more) _ (after (w ∷ more) (name_at more) _ (λ l. after (w ∷ more) (source_form l.1) _ (λ s. tt)))
     (either_gives P (is_keyword (codes "group") w) (group_form at more) _ (after (w ∷ more) (name_at more) _ (λ l. each_says (w ∷ more) at (Some l.0) l.1))
     (either_gives P (is_keyword (codes "flat") w) (each_form at None more) _ (each_says (w ∷ more) at None more)
     (either_gives P (is_keyword (codes "end") w) (with_all more End) _ (with_all_is P more End tt)
@@ -128,7 +129,8 @@ first_begins n (Else value) e = absurd (cc)
 first_begins n (Segment at label source) e = absurd (cc)
 first_begins n (Makes rule) e = absurd (cc)
 first_begins n (At leaf) e = absurd (cc)
-first_begins n (Each at label path) e = absurd (cc)
+first_begins n (Or other) e = absurd (cc)
+first_begins n (Each at label walk) e = absurd (cc)
 first_begins n End e = absurd (cc)
 first_begins n (Drops drop) e = absurd (cc)
 

@@ -15,8 +15,8 @@ use Rattle.gw_resolve.specs.declared.resolved.GroupItem.{GroupItem}
 use Rattle.gw_resolve.specs.declared.resolved.FlatItem.{FlatItem}
 use Rattle.gw_resolve.specs.Places.{Element, nodes_of_child, within}
 use Rattle.gw_resolve.specs.Resolved.{Items, no_items, group_item, flat_item}
-use Rattle.gw_resolve.specs.Seen.{place, with_item, all_items}
-use Rattle.gw_resolve.specs.Naming.{node_or, place_or, resolved_items}
+use Rattle.gw_resolve.specs.Seen.{place, some_condition, with_item, all_items}
+use Rattle.gw_resolve.specs.Naming.{node_or, place_or, condition_within, resolved_items}
 use Rattle.gw_resolve.proofs.Rows.{group_items, flat_items}
 use Rattle.gw_resolve.proofs.Noting.{front}
 
@@ -51,31 +51,39 @@ items_done tables scope nodes whole xs i ys le so_far =
     sym (so_far ∙ ap (λ l. with_items tables ys (resolved_items tables scope nodes (raws.all_items l))) (drop_of_length-le xs le) ∙ with_none tables ys)
 
 -- a group with its items
-pub made_group : (tables : List TableValue) (scope inner : List Element) (nodes below : Forest) (g : their_group.GroupItem) (made : GroupItem) (p q : List (Vec ℕ)) (label : List ℕ) (xs : List their.Item) (rest : raw.Items) → p ≡ g.path.items → q ≡ g.path.items → label ≡ g.label.items → xs ≡ g.items.items
-    → made.line ≡ g.line → place made.place ≡ place_or scope (raws.items_all p) → inner ≡ within scope (place_or scope (raws.items_all q)) → made.child ≡ node_or 0 nodes label → below ≡ nodes_of_child nodes made.child
+pub made_group : (tables : List TableValue) (scope inner asked : List Element) (nodes below : Forest) (g : their_group.GroupItem) (made : GroupItem) (p q : List (Vec ℕ)) (label : List ℕ) (xs : List their.Item) (rest : raw.Items) → p ≡ g.walk.path.items → q ≡ g.walk.path.items → label ≡ g.label.items → xs ≡ g.items.items
+    → made.line ≡ g.line → place made.place ≡ place_or scope (raws.items_all p) → inner ≡ within scope (place_or scope (raws.items_all q)) → asked ≡ within scope (place_or scope (raws.items_all q))
+    → some_condition made.condition ≡ condition_within asked (raws.field_condition_some g.walk.condition) → made.child ≡ node_or 0 nodes label → below ≡ nodes_of_child nodes made.child
     → ((tables : List TableValue) → all_items tables made.items.items ≡ resolved_items tables inner below (raws.all_items xs))
     → with_item tables (Group made) (resolved_items tables scope nodes rest) ≡ resolved_items tables scope nodes (raws.with_item (their.EachAs g) rest)
-made_group tables scope inner nodes below g made p q label xs rest a b c d line at walks child lower items =
+made_group tables scope inner asked nodes below g made p q label xs rest a b c d line at walks asks condition child lower items =
     let child' : made.child ≡ node_or 0 nodes g.label.items = child ∙ ap (node_or 0 nodes) c in
-    let at' : place made.place ≡ place_or scope (raws.path g.path) = at ∙ ap (λ x. place_or scope (raws.items_all x)) a in
-    let inner' : inner ≡ within scope (place_or scope (raws.path g.path)) = walks ∙ ap (λ x. within scope (place_or scope (raws.items_all x))) b in
+    let at' : place made.place ≡ place_or scope (raws.path g.walk.path) = at ∙ ap (λ x. place_or scope (raws.items_all x)) a in
+    let inner' : inner ≡ within scope (place_or scope (raws.path g.walk.path)) = walks ∙ ap (λ x. within scope (place_or scope (raws.items_all x))) b in
+    let asked' : asked ≡ within scope (place_or scope (raws.path g.walk.path)) = asks ∙ ap (λ x. within scope (place_or scope (raws.items_all x))) b in
+    let condition' : some_condition made.condition ≡ condition_within (within scope (place_or scope (raws.path g.walk.path))) (raws.field_condition_some g.walk.condition) =
+    condition ∙ ap (λ s. condition_within s (raws.field_condition_some g.walk.condition)) asked' in
     let lower' : below ≡ nodes_of_child nodes (node_or 0 nodes g.label.items) = lower ∙ ap (nodes_of_child nodes) child' in
     let others = resolved_items tables scope nodes rest in
-    let held : all_items tables made.items.items ≡ resolved_items tables (within scope (place_or scope (raws.path g.path))) (nodes_of_child nodes (node_or 0 nodes g.label.items)) (raws.all_items g.items.items) =
+    let held : all_items tables made.items.items ≡ resolved_items tables (within scope (place_or scope (raws.path g.walk.path))) (nodes_of_child nodes (node_or 0 nodes g.label.items)) (raws.all_items g.items.items) =
     items tables ∙ (λ i. resolved_items tables (inner' i) (lower' i) (raws.all_items (d i))) in
-    group_items tables made others ∙ (λ i. group_item (record { line = line i; child = child' i; place = at' i }) (held i) others)
+    group_items tables made others ∙ (λ i. group_item (record { line = line i; child = child' i; place = at' i; condition = condition' i }) (held i) others)
     ∙ ap (resolved_items tables scope nodes) (sym (their_rows.group_items g rest))
 
 -- a flat with its items
-pub made_flat : (tables : List TableValue) (scope inner : List Element) (nodes : Forest) (f : their_flat.FlatItem) (made : FlatItem) (p q : List (Vec ℕ)) (xs : List their.Item) (rest : raw.Items) → p ≡ f.path.items → q ≡ f.path.items → xs ≡ f.items.items
-    → made.line ≡ f.line → place made.place ≡ place_or scope (raws.items_all p) → inner ≡ within scope (place_or scope (raws.items_all q))
+pub made_flat : (tables : List TableValue) (scope inner asked : List Element) (nodes : Forest) (f : their_flat.FlatItem) (made : FlatItem) (p q : List (Vec ℕ)) (xs : List their.Item) (rest : raw.Items) → p ≡ f.walk.path.items → q ≡ f.walk.path.items → xs ≡ f.items.items
+    → made.line ≡ f.line → place made.place ≡ place_or scope (raws.items_all p) → inner ≡ within scope (place_or scope (raws.items_all q)) → asked ≡ within scope (place_or scope (raws.items_all q))
+    → some_condition made.condition ≡ condition_within asked (raws.field_condition_some f.walk.condition)
     → ((tables : List TableValue) → all_items tables made.items.items ≡ resolved_items tables inner nodes (raws.all_items xs))
     → with_item tables (Flat made) (resolved_items tables scope nodes rest) ≡ resolved_items tables scope nodes (raws.with_item (their.EachFlat f) rest)
-made_flat tables scope inner nodes f made p q xs rest a b d line at walks items =
-    let at' : place made.place ≡ place_or scope (raws.path f.path) = at ∙ ap (λ x. place_or scope (raws.items_all x)) a in
-    let inner' : inner ≡ within scope (place_or scope (raws.path f.path)) = walks ∙ ap (λ x. within scope (place_or scope (raws.items_all x))) b in
+made_flat tables scope inner asked nodes f made p q xs rest a b d line at walks asks condition items =
+    let at' : place made.place ≡ place_or scope (raws.path f.walk.path) = at ∙ ap (λ x. place_or scope (raws.items_all x)) a in
+    let inner' : inner ≡ within scope (place_or scope (raws.path f.walk.path)) = walks ∙ ap (λ x. within scope (place_or scope (raws.items_all x))) b in
+    let asked' : asked ≡ within scope (place_or scope (raws.path f.walk.path)) = asks ∙ ap (λ x. within scope (place_or scope (raws.items_all x))) b in
+    let condition' : some_condition made.condition ≡ condition_within (within scope (place_or scope (raws.path f.walk.path))) (raws.field_condition_some f.walk.condition) =
+    condition ∙ ap (λ s. condition_within s (raws.field_condition_some f.walk.condition)) asked' in
     let others = resolved_items tables scope nodes rest in
-    let held : all_items tables made.items.items ≡ resolved_items tables (within scope (place_or scope (raws.path f.path))) nodes (raws.all_items f.items.items) =
+    let held : all_items tables made.items.items ≡ resolved_items tables (within scope (place_or scope (raws.path f.walk.path))) nodes (raws.all_items f.items.items) =
     items tables ∙ (λ i. resolved_items tables (inner' i) nodes (raws.all_items (d i))) in
-    flat_items tables made others ∙ (λ i. flat_item (record { line = line i; place = at' i }) (held i) others)
+    flat_items tables made others ∙ (λ i. flat_item (record { line = line i; place = at' i; condition = condition' i }) (held i) others)
     ∙ ap (resolved_items tables scope nodes) (sym (their_rows.flat_items f rest))

@@ -1,5 +1,5 @@
 -- Failures found one list after the other.
-use Rattle.std.proofs.Common.{◌≡◌, ℕ, zero, suc, Bool, true, false, ◌+◌, ◌-◌, ◌<◌, ◌≤◌, add-one, List, [], ◌∷◌, ◌++◌, map, flat_map, take, drop, drop-cons, get_or, length, Some, refl, sym, ap, ap₂, ◌∙◌, ◌==◌, arith}
+use Rattle.std.proofs.Common.{◌≡◌, ℕ, zero, suc, Bool, true, false, ◌+◌, ◌-◌, ◌<◌, ◌≤◌, add-one, List, [], ◌∷◌, ◌++◌, map, flat_map, take, drop, drop-cons, get_or, length, Option, Some, refl, sym, ap, ap₂, ◌∙◌, ◌==◌, arith}
 use Rattle.std.proofs.Math.ListN.{drop_of_length-le}
 use Rattle.std.proofs.Math.Seq.{take-append_seam}
 use Rattle.std.proofs.lemmas.List.{append-nil, append_assoc, take-map, length-append, length-map}
@@ -8,15 +8,15 @@ use Rattle.std.specs.Global.{Vec}
 use Rattle.gw_maplang.specs.declared.item.FromItem.{FromItem}
 use Rattle.gw_maplang.specs.declared.rule.Rule.{Rule}
 use Rattle.gw_maplang.specs.declared.item.Item.{Item, SegFrom, SegAlways, EachAs', EachFlat'}
-use Rattle.gw_maplang.specs.Shapes.{Items, nothing}
-use Rattle.gw_maplang.specs.Seen.{path, items_all, with_item, row_items, all_items, rule}
+use Rattle.gw_maplang.specs.Shapes.{FieldCondition, Items, nothing}
+use Rattle.gw_maplang.specs.Seen.{path, walk, field_condition_some, items_all, with_item, row_items, all_items, rule}
 use Rattle.gw_resolve.specs.Places.{Element, within}
 use Rattle.gw_resolve.specs.Failures.{Failure, where_so, or_later}
 use Rattle.gw_resolve.specs.declared.failure.Failure as declared
 use Rattle.gw_resolve.specs.own.Looking.{each_within}
 use Rattle.gw_resolve.specs.Outcome.{Hides, HidesUnled}
 use Rattle.gw_resolve.specs.Seen.{failure, failures}
-use Rattle.gw_resolve.specs.Naming.{but_last, place_of, place_or, walk_failures, segments_failures, has_place, ends_at_segment, walked_if, source_leads, source_failures, rule_failures, path_failures}
+use Rattle.gw_resolve.specs.Naming.{but_last, place_of, place_or, walk_failures, segments_failures, has_place, ends_at_segment, walked_if, source_leads, source_failures, condition_failures, inner_failures, rule_failures, path_failures}
 
 -- one more, and those behind it
 pub added_one : {A : Type 0} (old new a b whole : List A) → whole ≡ a ++ b → new ≡ old ++ a → old ++ whole ≡ new ++ b
@@ -46,10 +46,14 @@ joined a c = ap (λ l. l ++ c) (sym (append-nil a))
 
 -- an item, and those behind it
 pub one_item : (scope : List Element) (x : Item) (rest : Items) → path_failures scope (with_item x rest) ≡ path_failures scope (with_item x nothing) ++ path_failures scope rest
-one_item scope (SegFrom s) rest = joined (source_failures scope s.line (Some (path s.path)) ++ where_so (source_leads scope (Some (path s.path))) (flat_map (rule_failures (walked_if scope (Some (path s.path)))) (map rule s.rules.items))) (path_failures scope rest)
+one_item scope (SegFrom s) rest =
+    joined
+    (source_failures scope s.line (Some (walk s.walk))
+    ++ where_so (source_leads scope (Some (walk s.walk))) (inner_failures (walked_if scope (Some (walk s.walk))) s.line (field_condition_some s.walk.condition) (map rule s.rules.items)))
+    (path_failures scope rest)
 one_item scope (SegAlways s) rest = joined (flat_map (rule_failures scope) (map rule s.rules.items)) (path_failures scope rest)
-one_item scope (EachAs' line label from shape row) rest = joined (each_within scope line (path from) (row_items row)) (path_failures scope rest)
-one_item scope (EachFlat' line from shape row) rest = joined (each_within scope line (path from) (row_items row)) (path_failures scope rest)
+one_item scope (EachAs' line label from shape row) rest = joined (each_within scope line (walk from) (row_items row)) (path_failures scope rest)
+one_item scope (EachFlat' line from shape row) rest = joined (each_within scope line (walk from) (row_items row)) (path_failures scope rest)
 
 pub items_next : (scope : List Element) (xs : List Item) (i : ℕ) (x : Item) (old new : List Failure) → i < length xs → x ≡ get_or xs i x → new ≡ old ++ path_failures scope (with_item x nothing) → old ++ path_failures scope (all_items (drop i xs)) ≡ new ++ path_failures scope (all_items (drop (i + 1) xs))
 items_next scope xs i x old new m e made =
@@ -120,26 +124,31 @@ named_all found p0 paths more t0 targets p d t a b e f g h =
 -- ---- the failures of one item
 
 -- of a segment for each that is walked
-pub from_paths : (scope inner : List Element) (s : FromItem) (leads : Bool) (p : List (Vec ℕ)) (rules : List Rule) → p ≡ s.path.items → rules ≡ s.rules.items
-    → leads ≡ ends_at_segment scope (place_of scope (items_all p)) → inner ≡ within scope (place_or scope (items_all p))
-    → segments_failures scope s.line (items_all p) ++ where_so leads (flat_map (rule_failures inner) (map rule rules)) ≡ path_failures scope (with_item (SegFrom s) nothing)
-from_paths scope inner s leads p rules a b c d =
-    (λ i. segments_failures scope s.line (items_all (a i)) ++ where_so (leads' i) (flat_map (rule_failures (inner' i)) (map rule (b i))))
-    ∙ sym (append-nil (source_failures scope s.line (Some (path s.path)) ++ where_so (source_leads scope (Some (path s.path))) (flat_map (rule_failures (walked_if scope (Some (path s.path)))) (map rule s.rules.items))))
+pub from_paths : (scope inner asked : List Element) (s : FromItem) (leads : Bool) (p : List (Vec ℕ)) (rules : List Rule) → p ≡ s.walk.path.items → rules ≡ s.rules.items
+    → leads ≡ ends_at_segment scope (place_of scope (items_all p)) → inner ≡ within scope (place_or scope (items_all p)) → asked ≡ within scope (place_or scope (items_all p))
+    → segments_failures scope s.line (items_all p) ++ where_so leads (condition_failures asked s.line (field_condition_some s.walk.condition) ++ flat_map (rule_failures inner) (map rule rules)) ≡ path_failures scope (with_item (SegFrom s) nothing)
+from_paths scope inner asked s leads p rules a b c d e =
+    (λ i. segments_failures scope s.line (items_all (a i)) ++ where_so (leads' i) (condition_failures (asked' i) s.line (field_condition_some s.walk.condition) ++ flat_map (rule_failures (inner' i)) (map rule (b i))))
+    ∙ sym (append-nil (source_failures scope s.line (Some (walk s.walk)) ++ where_so (source_leads scope (Some (walk s.walk))) (inner_failures (walked_if scope (Some (walk s.walk))) s.line (field_condition_some s.walk.condition) (map rule s.rules.items))))
   where
-    leads' : leads ≡ ends_at_segment scope (place_of scope (path s.path))
+    leads' : leads ≡ ends_at_segment scope (place_of scope (path s.walk.path))
     leads' = c ∙ ap (λ x. ends_at_segment scope (place_of scope (items_all x))) a
 
-    inner' : inner ≡ within scope (place_or scope (path s.path))
+    inner' : inner ≡ within scope (place_or scope (path s.walk.path))
     inner' = d ∙ ap (λ x. within scope (place_or scope (items_all x))) a
 
--- of what is walked, and of the items within
-pub walked_paths : (scope inner : List Element) (line : ℕ) (x : Item) (leads : Bool) (p q : List (Vec ℕ)) (items all : List Item) → path_failures scope (with_item x nothing) ≡ each_within scope line (items_all q) (all_items all) ++ []
-    → p ≡ q → items ≡ all → leads ≡ has_place (place_of scope (items_all p)) → inner ≡ within scope (place_or scope (items_all p))
-    → walk_failures scope line (items_all p) ++ where_so leads (path_failures inner (all_items items)) ≡ path_failures scope (with_item x nothing)
-walked_paths scope inner line x leads p q items all is a b d e =
-    (λ i. walk_failures scope line (items_all p) ++ where_so (d i) (path_failures (e i) (all_items items)))
-    ∙ ap₂ (λ l m. each_within scope line (items_all l) (all_items m)) a b ∙ sym (append-nil (each_within scope line (items_all q) (all_items all))) ∙ sym is
+    asked' : asked ≡ within scope (place_or scope (path s.walk.path))
+    asked' = e ∙ ap (λ x. within scope (place_or scope (items_all x))) a
+
+-- of what is walked, and of its condition and the items within
+pub walked_paths : (scope inner asked : List Element) (line : ℕ) (x : Item) (leads : Bool) (p q : List (Vec ℕ)) (condition : Option FieldCondition) (items all : List Item)
+    → path_failures scope (with_item x nothing) ≡ each_within scope line (record { path = items_all q; condition = condition }) (all_items all) ++ []
+    → p ≡ q → items ≡ all → leads ≡ has_place (place_of scope (items_all p)) → inner ≡ within scope (place_or scope (items_all p)) → asked ≡ within scope (place_or scope (items_all p))
+    → walk_failures scope line (items_all p) ++ where_so leads (condition_failures asked line condition ++ path_failures inner (all_items items)) ≡ path_failures scope (with_item x nothing)
+walked_paths scope inner asked line x leads p q condition items all is a b d e f =
+    (λ i. walk_failures scope line (items_all p) ++ where_so (d i) (condition_failures (f i) line condition ++ path_failures (e i) (all_items items)))
+    ∙ ap₂ (λ l m. each_within scope line (record { path = items_all l; condition = condition }) (all_items m)) a b
+    ∙ sym (append-nil (each_within scope line (record { path = items_all q; condition = condition }) (all_items all))) ∙ sym is
 
 -- of rules alone
 pub rules_paths : (first : List Failure) (scope : List Element) (theirs whole : List Rule) (new : List Failure) → theirs ≡ whole → new ≡ first ++ flat_map (rule_failures scope) (map rule theirs) → new ≡ first ++ (flat_map (rule_failures scope) (map rule whole) ++ [])

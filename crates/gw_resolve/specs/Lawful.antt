@@ -9,7 +9,7 @@ use Rattle.gw_maplang.specs.Among.{Distinct}
 use Rattle.gw_maplang.specs.Shapes.{Rows}
 use Rattle.gw_maplang.specs.Lawful.{LawfulRow}
 use Rattle.gw_resolve.specs.Places.{child, nodes_of_child, name_of}
-use Rattle.gw_resolve.specs.Resolved.{Source, of_field, of_current, Leaf, const, copied, looked_up, dated, At, Making, copy, first, repeat, build, Rule, Items, no_items, segment_item, group_item, flat_item}
+use Rattle.gw_resolve.specs.Resolved.{Source, of_field, of_current, Leaf, const, copied, looked_up, dated, Alternative, At, alternatives, Making, copy, first, repeat, build, Rule, Items, no_items, segment_item, group_item, flat_item}
 
 -- what rows give is canonical and not empty
 pub record LawfulRows (table : Rows) : Type 0 where
@@ -31,7 +31,7 @@ LawfulLeaf repeated (dated digits source) = LawfulSource repeated source
 pub record LawfulAt (repeated : Bool) (a : At) : Type 0 where
   pub comp : 1 ≤ a.comp
   pub sub : 1 ≤ a.sub
-  pub leaf : LawfulLeaf repeated a.leaf
+  pub each : AllByRecursion (λ (o : Alternative). LawfulLeaf repeated o.leaf) (alternatives a)
 
 abbrev pub place : At → LeafPlace
 place a = record { comp = a.comp; sub = a.sub }

@@ -7,7 +7,7 @@ use Rattle.gw_profile.specs.Line.{allows}
 use Rattle.gw_maplang.specs.Shapes as raw
 use Rattle.gw_maplang.specs.Shapes.{MapValue, TableValue, Rows, table_of}
 use Rattle.gw_resolve.specs.Places.{Element, a_segment, a_group, the_whole, nodes_of, child, nodes_of_child, Place, found, element_of, within}
-use Rattle.gw_resolve.specs.Resolved.{Reference, Source, of_field, of_current, Leaf, const, copied, looked_up, dated, At, Making, copy, first, repeat, build, Rule, Items, no_items, segment_item, group_item, flat_item, Drop, Resolved}
+use Rattle.gw_resolve.specs.Resolved.{Reference, FieldCondition, Source, of_field, of_current, Leaf, const, copied, looked_up, dated, Alternative, At, Making, copy, first, repeat, build, Rule, Items, no_items, segment_item, group_item, flat_item, Drop, Resolved}
 use Rattle.gw_resolve.specs.Order.{is_segment, is_group}
 use Rattle.gw_resolve.specs.Failures.{Failure, at_line, fails, where_so, or_later}
 
@@ -109,8 +109,11 @@ text_failures scope line (raw.Copy ref) = ref_failures scope line ref
 text_failures scope line (raw.Lookup table ref) = ref_failures scope line ref
 text_failures scope line (raw.Date digits ref) = ref_failures scope line ref
 
+abbrev pub other_failures : List Element → raw.Alternative → List Failure
+other_failures scope o = text_failures scope o.line o.leaf
+
 abbrev pub leaf_failures : List Element → raw.LeafValue → List Failure
-leaf_failures scope l = text_failures scope l.line l.leaf
+leaf_failures scope l = text_failures scope l.line l.leaf ++ flat_map (other_failures scope) l.others
 
 abbrev pub making_failures : List Element → ℕ → raw.Making → List Failure
 making_failures scope line (raw.Copies from) = read_failures scope line from
@@ -121,30 +124,50 @@ making_failures scope line (raw.Builds leaves) = flat_map (leaf_failures scope) 
 abbrev pub rule_failures : List Element → raw.RuleValue → List Failure
 rule_failures scope r = making_failures scope r.line r.making
 
+-- of what a condition reads, within what is walked
+abbrev pub condition_failures : List Element → ℕ → Option raw.FieldCondition → List Failure
+condition_failures scope line None = []
+condition_failures scope line (Some c) = read_failures scope line c.from
+
 -- what a segment item walks
-abbrev pub source_failures : List Element → ℕ → Option raw.Path → List Failure
+abbrev pub source_failures : List Element → ℕ → Option raw.Walk → List Failure
 source_failures scope line None = []
-source_failures scope line (Some path) = segments_failures scope line path
+source_failures scope line (Some walk) = segments_failures scope line walk.path
 
 -- it leads to a segment, or none is said
-abbrev pub source_leads : List Element → Option raw.Path → Bool
+abbrev pub source_leads : List Element → Option raw.Walk → Bool
 source_leads scope None = true
-source_leads scope (Some path) = ends_at_segment scope (place_of scope path)
+source_leads scope (Some walk) = ends_at_segment scope (place_of scope walk.path)
 
-abbrev pub walked_if : List Element → Option raw.Path → List Element
+abbrev pub walked_if : List Element → Option raw.Walk → List Element
 walked_if scope None = scope
-walked_if scope (Some path) = within scope (place_or scope path)
+walked_if scope (Some walk) = within scope (place_or scope walk.path)
+
+-- of its condition and its rules, within what it walks
+abbrev pub condition_if : Option raw.Walk → Option raw.FieldCondition
+condition_if None = None
+condition_if (Some walk) = walk.condition
+
+abbrev pub inner_failures : List Element → ℕ → Option raw.FieldCondition → List raw.RuleValue → List Failure
+inner_failures scope line condition rules = condition_failures scope line condition ++ flat_map (rule_failures scope) rules
 
 -- An item whose own path leads nowhere, or not to a segment where it must (rule 1), hides the paths within it: where they lead isn't known.
 -- One whose path has a step that comes more than once (rule 2) hides nothing.
 abbrev pub path_failures : List Element → raw.Items → List Failure
 path_failures scope raw.nothing = []
 path_failures scope (raw.segment s rest) =
-    source_failures scope s.line s.source ++ where_so (source_leads scope s.source) (flat_map (rule_failures (walked_if scope s.source)) s.rules) ++ path_failures scope rest
+    source_failures scope s.line s.source ++ where_so (source_leads scope s.source) (inner_failures (walked_if scope s.source) s.line (condition_if s.source) s.rules)
+    ++ path_failures scope rest
 path_failures scope (raw.group g items rest) =
-    walk_failures scope g.line g.path ++ where_so (has_place (place_of scope g.path)) (path_failures (within scope (place_or scope g.path)) items) ++ path_failures scope rest
+    walk_failures scope g.line g.walk.path
+    ++ where_so (has_place (place_of scope g.walk.path))
+    (condition_failures (within scope (place_or scope g.walk.path)) g.line g.walk.condition ++ path_failures (within scope (place_or scope g.walk.path)) items)
+    ++ path_failures scope rest
 path_failures scope (raw.flat f items rest) =
-    walk_failures scope f.line f.path ++ where_so (has_place (place_of scope f.path)) (path_failures (within scope (place_or scope f.path)) items) ++ path_failures scope rest
+    walk_failures scope f.line f.walk.path
+    ++ where_so (has_place (place_of scope f.walk.path))
+    (condition_failures (within scope (place_or scope f.walk.path)) f.line f.walk.condition ++ path_failures (within scope (place_or scope f.walk.path)) items)
+    ++ path_failures scope rest
 
 -- a drop leads to something, and to a segment where it names a field
 abbrev pub drop_failures : Element → raw.DropValue → List Failure
@@ -214,8 +237,12 @@ leaf tables scope (raw.Copy ref) = copied (source scope ref)
 leaf tables scope (raw.Lookup table ref) = looked_up (unwrap_or (table_of table tables) no_rows) (source scope ref)
 leaf tables scope (raw.Date digits ref) = dated digits (source scope ref)
 
+abbrev pub alternative : List TableValue → List Element → raw.Alternative → Alternative
+alternative tables scope o = record { line = o.line; leaf = leaf tables scope o.leaf }
+
 abbrev pub at_leaf : List TableValue → List Element → raw.LeafValue → At
-at_leaf tables scope l = record { line = l.line; comp = l.place.comp; sub = l.place.sub; leaf = leaf tables scope l.leaf }
+at_leaf tables scope l =
+    record { line = l.line; comp = l.place.comp; sub = l.place.sub; leaf = leaf tables scope l.leaf; others = map (alternative tables scope) l.others }
 
 abbrev pub making : List TableValue → List Element → raw.Making → Making
 making tables scope (raw.Copies from) = copy (reference scope from)
@@ -226,19 +253,37 @@ making tables scope (raw.Builds leaves) = build (map (at_leaf tables scope) leav
 abbrev pub rule : List TableValue → List Element → raw.RuleValue → Rule
 rule tables scope r = record { line = r.line; field = r.field; making = making tables scope r.making }
 
+-- a condition, within what is walked
+abbrev pub condition_within : List Element → Option raw.FieldCondition → Option FieldCondition
+condition_within scope condition = option_map (λ c. record { from = reference scope c.from; condition = c.condition }) condition
+
 -- items of a level with these target nodes
 abbrev pub resolved_items : List TableValue → List Element → Forest → raw.Items → Items
 resolved_items tables scope nodes raw.nothing = no_items
 resolved_items tables scope nodes (raw.segment s rest) =
-    segment_item (record { line = s.line; child = node_or 0 nodes s.label; place = option_map (place_or scope) s.source; rules = map (rule tables (walked_if scope s.source)) s.rules })
+    segment_item
+    (record {
+      line = s.line;
+      child = node_or 0 nodes s.label;
+      place = option_map (λ w. place_or scope w.path) s.source;
+      condition = condition_within (walked_if scope s.source) (condition_if s.source);
+      rules = map (rule tables (walked_if scope s.source)) s.rules;
+    })
     (resolved_items tables scope nodes rest)
 resolved_items tables scope nodes (raw.group g items rest) =
-    group_item (record { line = g.line; child = node_or 0 nodes g.label; place = place_or scope g.path })
-    (resolved_items tables (within scope (place_or scope g.path)) (nodes_of_child nodes (node_or 0 nodes g.label)) items)
+    group_item
+    (record {
+      line = g.line;
+      child = node_or 0 nodes g.label;
+      place = place_or scope g.walk.path;
+      condition = condition_within (within scope (place_or scope g.walk.path)) g.walk.condition;
+    })
+    (resolved_items tables (within scope (place_or scope g.walk.path)) (nodes_of_child nodes (node_or 0 nodes g.label)) items)
     (resolved_items tables scope nodes rest)
 resolved_items tables scope nodes (raw.flat f items rest) =
-    flat_item (record { line = f.line; place = place_or scope f.path })
-    (resolved_items tables (within scope (place_or scope f.path)) nodes items)
+    flat_item
+    (record { line = f.line; place = place_or scope f.walk.path; condition = condition_within (within scope (place_or scope f.walk.path)) f.walk.condition })
+    (resolved_items tables (within scope (place_or scope f.walk.path)) nodes items)
     (resolved_items tables scope nodes rest)
 
 abbrev pub drop : Element → raw.DropValue → Drop

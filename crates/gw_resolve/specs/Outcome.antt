@@ -4,6 +4,7 @@ use Rattle.gw_profile.specs.Shapes.{Forest, ProfileValue}
 use Rattle.gw_maplang.specs.Seen as raw
 use Rattle.gw_maplang.specs.Shapes.{MapValue, TableValue, Items, nothing}
 use Rattle.gw_maplang.specs.declared.item.Item.{Item as TheirItem}
+use Rattle.gw_maplang.specs.declared.rule.Alternative as theirs
 use Rattle.gw_maplang.specs.declared.rule.LeafRule.{LeafRule}
 use Rattle.gw_maplang.specs.declared.rule.Rule.{Rule as TheirRule}
 use Rattle.gw_resolve.specs.declared.named.ResolvedMap.{ResolvedMap}
@@ -11,6 +12,7 @@ use Rattle.gw_resolve.specs.declared.named.Resolving as declared
 use Rattle.gw_resolve.specs.declared.failure.Failure.{Failure}
 use Rattle.gw_resolve.specs.declared.items.ResolvedItem.{ResolvedItem}
 use Rattle.gw_resolve.specs.declared.lost.NameFailures.{NameFailures}
+use Rattle.gw_resolve.specs.declared.resolved.Alternative.{Alternative}
 use Rattle.gw_resolve.specs.declared.resolved.At.{At}
 use Rattle.gw_resolve.specs.declared.resolved.Item.{Item}
 use Rattle.gw_resolve.specs.declared.resolved.Making.{Making}
@@ -24,6 +26,12 @@ use Rattle.gw_resolve.specs.Seen as seen
 use Rattle.gw_resolve.specs.Seen.{failures, with_item, all_items, left_out}
 
 -- ---- parts, whatever the map's tables are
+
+abbrev pub MakesOther : List Element → theirs.Alternative → Alternative → Type 0
+MakesOther scope from made = (tables : List TableValue) → seen.alternative tables made ≡ spec.alternative tables scope (raw.alternative from)
+
+abbrev pub MakesOthers : List Element → List theirs.Alternative → List Alternative → Type 0
+MakesOthers scope from made = (tables : List TableValue) → map (seen.alternative tables) made ≡ map (spec.alternative tables scope) (map raw.alternative from)
 
 abbrev pub MakesLeaf : List Element → LeafRule → At → Type 0
 MakesLeaf scope from made = (tables : List TableValue) → seen.at_leaf tables made ≡ spec.at_leaf tables scope (raw.leaf_value from)

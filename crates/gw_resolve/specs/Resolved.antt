@@ -1,5 +1,5 @@
 -- A map whose labels were looked up: it names target nodes by their numbers, and source places by steps.
-use Rattle.std.specs.Prelude.{ℕ, ◌==◌, ◌&&◌, List, Option, Some, None, find}
+use Rattle.std.specs.Prelude.{ℕ, ◌==◌, ◌&&◌, List, ◌∷◌, Option, Some, None, find}
 use Rattle.gw_maplang.specs.Shapes.{Rows, Condition}
 use Rattle.gw_resolve.specs.Places.{Place}
 
@@ -20,12 +20,22 @@ pub data Leaf : Type 0 where
   looked_up : (table : Rows) (source : Source) → Leaf
   dated : (digits : ℕ) (source : Source) → Leaf
 
--- the leaf of a component and subcomponent
+-- a leaf of a place, and its line
+pub record Alternative : Type 0 where
+  pub line : ℕ
+  pub leaf : Leaf
+
+-- the leaf of a component and subcomponent; where it gives no text, the first of the others that gives one
 pub record At : Type 0 where
   pub line : ℕ
   pub comp : ℕ
   pub sub : ℕ
   pub leaf : Leaf
+  pub others : List Alternative
+
+-- all leaves of the place, in order
+abbrev pub alternatives : At → List Alternative
+alternatives a = record { line = a.line; leaf = a.leaf } ∷ a.others
 
 -- How a field is made: as another, as its first repetition, a repetition of leaves for each of its own, or one of leaves.
 -- Where there is a condition, only the repetitions count that it chooses.
@@ -41,11 +51,18 @@ pub record Rule : Type 0 where
   pub field : ℕ
   pub making : Making
 
--- a target segment for each occurrence at a place, or one where no place is said
+-- some occurrences: those where the first repetition of this field, read within each, is one of those
+pub record FieldCondition : Type 0 where
+  pub from : Reference
+  pub condition : Condition
+
+-- A target segment for each occurrence at a place, or one where no place is said.
+-- Here and below, where there is a condition, only the occurrences count that it chooses.
 pub record SegmentItem : Type 0 where
   pub line : ℕ
   pub child : ℕ
   pub place : Option Place
+  pub condition : Option FieldCondition
   pub rules : List Rule
 
 -- a target group for each occurrence at a place
@@ -53,11 +70,13 @@ pub record GroupItem : Type 0 where
   pub line : ℕ
   pub child : ℕ
   pub place : Place
+  pub condition : Option FieldCondition
 
 -- the occurrences at a place, without a target group
 pub record FlatItem : Type 0 where
   pub line : ℕ
   pub place : Place
+  pub condition : Option FieldCondition
 
 -- a list of items: each a segment, or a group or flat with its own items
 pub data Items : Type 0 where

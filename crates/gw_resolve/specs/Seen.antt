@@ -12,16 +12,18 @@ use Rattle.gw_resolve.specs.declared.resolved.ScopePath as places
 use Rattle.gw_resolve.specs.declared.resolved.Reference as references
 use Rattle.gw_resolve.specs.declared.resolved.Source as sources_of
 use Rattle.gw_resolve.specs.declared.resolved.ResolvedLeaf as leaves
+use Rattle.gw_resolve.specs.declared.resolved.Alternative as the_alternatives
 use Rattle.gw_resolve.specs.declared.resolved.At as ats
 use Rattle.gw_resolve.specs.declared.resolved.Making as makings
+use Rattle.gw_resolve.specs.declared.resolved.FieldCondition as conditions
 use Rattle.gw_resolve.specs.declared.resolved.Rule as rules_of
 use Rattle.gw_resolve.specs.declared.resolved.Item.{Item, Segment, Group', Flat', Row_of-Item, end_of-Item, more_of-Item}
 use Rattle.gw_resolve.specs.declared.resolved.LeftOut.{LeftOut}
-use Rattle.gw_maplang.specs.Seen.{condition_some}
+use Rattle.gw_maplang.specs.Seen.{condition as seen_condition, condition_some}
 use Rattle.gw_maplang.specs.Shapes.{TableValue, table_of}
 use Rattle.gw_resolve.specs.Naming.{no_rows}
 use Rattle.gw_resolve.specs.Places.{Element, a_segment, a_group, the_whole, Place}
-use Rattle.gw_resolve.specs.Resolved.{Reference, Source, of_field, of_current, Leaf, const, copied, looked_up, dated, At, Making, copy, first, repeat, build, Rule, Items, no_items, segment_item, group_item, flat_item, Drop, first_child}
+use Rattle.gw_resolve.specs.Resolved.{Reference, FieldCondition, Source, of_field, of_current, Leaf, const, copied, looked_up, dated, Alternative, At, Making, copy, first, repeat, build, Rule, Items, no_items, segment_item, group_item, flat_item, Drop, first_child}
 
 -- ---- counts
 
@@ -77,8 +79,12 @@ leaf tables (leaves.TheVariants.Copied from) = copied (source from)
 leaf tables (leaves.TheVariants.LookedUp name from) = looked_up (unwrap_or (table_of name.items tables) no_rows) (source from)
 leaf tables (leaves.TheVariants.Dated digits from) = dated digits (source from)
 
+abbrev pub alternative : List TableValue → the_alternatives.Alternative → Alternative
+alternative tables o = record { line = o.line; leaf = leaf tables o.leaf }
+
 abbrev pub at_leaf : List TableValue → ats.At → At
-at_leaf tables a = record { line = a.line; comp = a.place.comp; sub = a.place.sub; leaf = leaf tables a.leaf }
+at_leaf tables a =
+    record { line = a.line; comp = a.place.comp; sub = a.place.sub; leaf = leaf tables a.leaf; others = map (alternative tables) a.others.items }
 
 abbrev pub making : List TableValue → makings.Making → Making
 making tables (makings.TheVariants.Copy from) = copy (reference from)
@@ -89,14 +95,20 @@ making tables (makings.TheVariants.Build each) = build (map (at_leaf tables) eac
 abbrev pub rule : List TableValue → rules_of.Rule → Rule
 rule tables r = record { line = r.line; field = r.field; making = making tables r.making }
 
+abbrev pub condition : conditions.FieldCondition → FieldCondition
+condition c = record { from = reference c.from; condition = seen_condition c.condition }
+
+abbrev pub some_condition : Option conditions.FieldCondition → Option FieldCondition
+some_condition c = option_map condition c
+
 abbrev mutual
   -- an item with the items behind it
   pub with_item : List TableValue → Item → Items → Items
   with_item tables (Segment s) rest =
-      segment_item (record { line = s.line; child = s.child; place = option_map place s.place; rules = map (rule tables) s.rules.items }) rest
-  with_item tables (Group' line child from shape row) rest =
-      group_item (record { line = line; child = child; place = place from }) (row_items tables row) rest
-  with_item tables (Flat' line from shape row) rest = flat_item (record { line = line; place = place from }) (row_items tables row) rest
+      segment_item (record { line = s.line; child = s.child; place = option_map place s.place; condition = some_condition s.condition; rules = map (rule tables) s.rules.items }) rest
+  with_item tables (Group' line child from asked shape row) rest =
+      group_item (record { line = line; child = child; place = place from; condition = some_condition asked }) (row_items tables row) rest
+  with_item tables (Flat' line from asked shape row) rest = flat_item (record { line = line; place = place from; condition = some_condition asked }) (row_items tables row) rest
 
   pub row_items : {n : _} → List TableValue → Row_of-Item n → Items
   row_items tables end_of-Item = no_items

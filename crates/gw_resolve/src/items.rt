@@ -7,14 +7,14 @@ ghost use Rattle.gw_resolve.specs.Naming as spec;
 ghost use Rattle.gw_resolve.specs.Noted.{Notes};
 ghost use Rattle.gw_resolve.specs.Places.{within as scope_within};
 ghost use Rattle.gw_resolve.specs.Outcome.{MakesItems, MakesRules, ResolvesItem, path_failures};
-ghost use Rattle.gw_resolve.specs.Seen.{scope as walked, place as seen_place};
+ghost use Rattle.gw_resolve.specs.Seen.{scope as walked, place as seen_place, some_condition};
 
 use crate::element::{ScopeNode, enter, nodes_of_child};
 use crate::failure::Failure;
 use crate::led::{PathUse, lead};
 use crate::lost::{NameFailures, hide_both, hide_unled, mark};
-use crate::resolved::{FlatItem, GroupItem, Item, Rule, ScopePath, SegmentItem};
-use crate::rules::rules;
+use crate::resolved::{FieldCondition, FlatItem, GroupItem, Item, Rule, ScopePath, SegmentItem};
+use crate::rules::{field_condition, rules};
 use crate::targets::{NodeKind, TargetNode, flat_target, label_target};
 use gw_profile::Level;
 use std::alloc::{AllocError, Global};
@@ -26,10 +26,11 @@ pub(crate) struct ResolvedItem {
     node: usize,
 }
 
-/// The place that an item walks, and the rules there.
+/// The place that an item walks, with the condition there and the rules.
 #[derive(Drop)]
 struct Ruled {
     place: ScopePath,
+    condition: Option<FieldCondition>,
     rules: Vec<Rule>,
 }
 
@@ -70,8 +71,9 @@ fn rules_walked(
     scope: &[ScopeNode<'_, '_>],
     made: &gw_maplang::FromItem,
 ) -> Result<Ruled, AllocError>
-    ensures place { IfOk result (λ r. seen_place r.place ≡ spec.place_or (walked scope.now) (raw.path made.now.path)) }
-    ensures rules { IfOk result (λ r. MakesRules (spec.walked_if (walked scope.now) (Some (raw.path made.now.path))) made.now.rules.items r.rules.items) }
+    ensures place { IfOk result (λ r. seen_place r.place ≡ spec.place_or (walked scope.now) (raw.path made.now.walk.path)) }
+    ensures condition { IfOk result (λ r. some_condition r.condition ≡ spec.condition_within (spec.walked_if (walked scope.now) (Some (raw.walk made.now.walk))) (raw.field_condition_some made.now.walk.condition)) }
+    ensures rules { IfOk result (λ r. MakesRules (spec.walked_if (walked scope.now) (Some (raw.walk made.now.walk))) made.now.rules.items r.rules.items) }
     ensures failures { OnOk result (Notes paths.old paths.new (path_failures (walked scope.now) (SegFrom made.now))) }
 {
     let led = lead(
@@ -79,22 +81,30 @@ fn rules_walked(
         paths,
         scope,
         made.line,
-        &made.path,
+        &made.walk.path,
         PathUse::WalkSegments,
     )?;
     let kept = paths.len();
     let inner = enter(alloc, scope, &led.place)?;
+    let condition = field_condition(alloc, paths, &inner, made.line, &made.walk.condition)?;
     let rules = rules(alloc, paths, &inner, &made.rules)?;
     hide_unled(paths, led.leads, kept);
     Ok(Ruled {
         place: led.place,
+        condition,
         rules,
     })
 }
 
 // A segment item.
-fn segment(line: u32, aimed: TargetNode, place: Option<ScopePath>, rules: Vec<Rule>) -> ResolvedItem
-    ensures item { result.item ≡ Item.Segment (record { line = line; child = aimed.child; place = place; rules = rules }) }
+fn segment(
+    line: u32,
+    aimed: TargetNode,
+    place: Option<ScopePath>,
+    condition: Option<FieldCondition>,
+    rules: Vec<Rule>,
+) -> ResolvedItem
+    ensures item { result.item ≡ Item.Segment (record { line = line; child = aimed.child; place = place; condition = condition; rules = rules }) }
     ensures node { result.node ≡ aimed.node }
 {
     ResolvedItem {
@@ -102,6 +112,7 @@ fn segment(line: u32, aimed: TargetNode, place: Option<ScopePath>, rules: Vec<Ru
             line,
             child: aimed.child,
             place,
+            condition,
             rules,
         }),
         node: aimed.node,
@@ -128,7 +139,13 @@ fn segment_from(
         &made.label,
     )?;
     let ruled = rules_walked(alloc, &mut lost.paths, scope, made)?;
-    Ok(segment(made.line, aimed, Some(ruled.place), ruled.rules))
+    Ok(segment(
+        made.line,
+        aimed,
+        Some(ruled.place),
+        ruled.condition,
+        ruled.rules,
+    ))
 }
 
 // An item of one segment.
@@ -151,7 +168,7 @@ fn segment_always(
         &made.label,
     )?;
     let rules = rules(alloc, &mut lost.paths, scope, &made.rules)?;
-    Ok(segment(made.line, aimed, None, rules))
+    Ok(segment(made.line, aimed, None, None, rules))
 }
 
 // A group for each that is walked. A path that leads nowhere hides the failures of the paths within, and a label that fails
@@ -168,7 +185,7 @@ fn group(
     ensures { IfOk result (ResolvesItem (walked scope.now) (nodes_in level.entry) j (EachAs made.now) lost.old lost.new) }
 {
     let before = lost.targets.len();
-    let entered = enter_path(alloc, &mut lost.paths, scope, made.line, &made.path)?;
+    let entered = enter_path(alloc, &mut lost.paths, scope, made.line, &made.walk.path)?;
     let aimed = label_target(
         &mut lost.targets,
         level,
@@ -178,6 +195,13 @@ fn group(
         &made.label,
     )?;
     let kept = mark(lost);
+    let condition = field_condition(
+        alloc,
+        &mut lost.paths,
+        &entered.inner,
+        made.line,
+        &made.walk.condition,
+    )?;
     let below = nodes_of_child(level, aimed.child);
     let items = resolve_items(alloc, lost, &entered.inner, below, &made.items)?;
     hide_both(lost, entered.leads, before, kept);
@@ -186,6 +210,7 @@ fn group(
             line: made.line,
             child: aimed.child,
             place: entered.place,
+            condition,
             items,
         }),
         node: aimed.node,
@@ -206,15 +231,23 @@ fn flat(
     ensures { IfOk result (ResolvesItem (walked scope.now) (nodes_in level.entry) j (EachFlat made.now) lost.old lost.new) }
 {
     let before = lost.targets.len();
-    let entered = enter_path(alloc, &mut lost.paths, scope, made.line, &made.path)?;
+    let entered = enter_path(alloc, &mut lost.paths, scope, made.line, &made.walk.path)?;
     let node = flat_target(&mut lost.targets, level, j, made.line, &made.items)?;
     let kept = mark(lost);
+    let condition = field_condition(
+        alloc,
+        &mut lost.paths,
+        &entered.inner,
+        made.line,
+        &made.walk.condition,
+    )?;
     let items = resolve_items(alloc, lost, &entered.inner, level, &made.items)?;
     hide_both(lost, entered.leads, before, kept);
     Ok(ResolvedItem {
         item: Item::Flat(FlatItem {
             line: made.line,
             place: entered.place,
+            condition,
             items,
         }),
         node,

@@ -24,6 +24,6 @@ pub use named::{ResolvedMap, Resolving, resolve};
 pub use nodes::{fields_at, nodes_within};
 pub use positions::{position, positions_within};
 pub use resolved::{
-    At, FlatItem, GroupItem, Item, LeftOut, Making, Reference, ResolvedLeaf, Rule, ScopePath,
-    SegmentItem, Source,
+    Alternative, At, FieldCondition, FlatItem, GroupItem, Item, LeftOut, Making, Reference,
+    ResolvedLeaf, Rule, ScopePath, SegmentItem, Source,
 };

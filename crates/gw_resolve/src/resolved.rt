@@ -32,12 +32,20 @@ pub enum ResolvedLeaf {
     Dated(u32, Source),
 }
 
-/// The leaf of a component and subcomponent.
+/// `or`: a leaf that stands for those above it of its place.
+#[derive(Drop)]
+pub struct Alternative {
+    pub line: u32,
+    pub leaf: ResolvedLeaf,
+}
+
+/// The leaf of a component and subcomponent. If it gives no text, the first of the others that gives one fills the place.
 #[derive(Drop)]
 pub struct At {
     pub line: u32,
     pub place: LeafPlace,
     pub leaf: ResolvedLeaf,
+    pub others: Vec<Alternative>,
 }
 
 /// How a field is made: as another, as its first repetition, a repetition of leaves for each of its own, or one of leaves.
@@ -58,12 +66,21 @@ pub struct Rule {
     pub making: Making,
 }
 
+/// Some occurrences: those where the first repetition of a field, read within each, meets the condition.
+#[derive(Drop)]
+pub struct FieldCondition {
+    pub from: Reference,
+    pub condition: Condition,
+}
+
 /// A target segment for each occurrence at a place, or one where no place is said.
+/// Here and below only the occurrences count that meet a condition, if there is one.
 #[derive(Drop)]
 pub struct SegmentItem {
     pub line: u32,
     pub child: usize,
     pub place: Option<ScopePath>,
+    pub condition: Option<FieldCondition>,
     pub rules: Vec<Rule>,
 }
 
@@ -74,6 +91,7 @@ pub struct GroupItem {
     pub line: u32,
     pub child: usize,
     pub place: ScopePath,
+    pub condition: Option<FieldCondition>,
     pub items: Vec<Item>,
 }
 
@@ -83,6 +101,7 @@ pub struct GroupItem {
 pub struct FlatItem {
     pub line: u32,
     pub place: ScopePath,
+    pub condition: Option<FieldCondition>,
     pub items: Vec<Item>,
 }
 

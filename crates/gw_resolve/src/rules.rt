@@ -4,14 +4,16 @@ ghost use Rattle.gw_maplang.specs.Seen as raw;
 ghost use Rattle.gw_maplang.specs.Shapes.{TableValue};
 ghost use Rattle.gw_resolve.specs.Naming as spec;
 ghost use Rattle.gw_resolve.specs.Noted.{Notes};
-ghost use Rattle.gw_resolve.specs.Outcome.{MakesLeaf, MakesLeaves, MakesMaking, MakesRule, MakesRules};
+ghost use Rattle.gw_resolve.specs.Outcome.{MakesOther, MakesOthers, MakesLeaf, MakesLeaves, MakesMaking, MakesRule, MakesRules};
 ghost use Rattle.gw_resolve.specs.Seen as seen;
 ghost use Rattle.gw_resolve.specs.Seen.{scope as walked};
 
 use crate::element::ScopeNode;
 use crate::failure::Failure;
 use crate::led::{PathUse, lead};
-use crate::resolved::{At, Making, Reference, ResolvedLeaf, Rule, Source};
+use crate::resolved::{
+    Alternative, At, FieldCondition, Making, Reference, ResolvedLeaf, Rule, Source,
+};
 use gw_maplang::{Condition, FieldPath, LeafRule, Ref};
 use std::alloc::{AllocError, Global};
 
@@ -88,6 +90,39 @@ fn leaf(
     }
 }
 
+fn other(
+    alloc: Global,
+    found: &mut Vec<Failure>,
+    scope: &[ScopeNode<'_, '_>],
+    made: &gw_maplang::Alternative,
+) -> Result<Alternative, AllocError>
+    ensures made { IfOk result (MakesOther (walked scope.now) made.now) }
+    ensures failures { OnOk result (Notes found.old found.new (spec.other_failures (walked scope.now) (raw.alternative made.now))) }
+{
+    let leaf = leaf(alloc, found, scope, made.line, &made.leaf)?;
+    Ok(Alternative {
+        line: made.line,
+        leaf,
+    })
+}
+
+fn others(
+    alloc: Global,
+    found: &mut Vec<Failure>,
+    scope: &[ScopeNode<'_, '_>],
+    all: &[gw_maplang::Alternative],
+) -> Result<Vec<Alternative>, AllocError>
+    ensures made { IfOk result (λ v. MakesOthers (walked scope.now) all.now v.items) }
+    ensures failures { OnOk result (Notes found.old found.new (flat_map (spec.other_failures (walked scope.now)) (map raw.alternative all.now))) }
+{
+    let mut built = Vec::new(alloc);
+    for made in all {
+        let one = other(alloc, found, scope, made)?;
+        built.push(one)?;
+    }
+    Ok(built)
+}
+
 fn at_leaf(
     alloc: Global,
     found: &mut Vec<Failure>,
@@ -98,10 +133,12 @@ fn at_leaf(
     ensures failures { OnOk result (Notes found.old found.new (spec.leaf_failures (walked scope.now) (raw.leaf_value made.now))) }
 {
     let leaf = leaf(alloc, found, scope, made.line, &made.leaf)?;
+    let others = others(alloc, found, scope, &made.others)?;
     Ok(At {
         line: made.line,
         place: made.place,
         leaf,
+        others,
     })
 }
 
@@ -133,17 +170,45 @@ fn texts_of(alloc: Global, all: &[Vec<u8>]) -> Result<Vec<Vec<u8>>, AllocError>
     Ok(copies)
 }
 
+fn condition_of(alloc: Global, said: &Condition) -> Result<Condition, AllocError>
+    ensures { IfOk result (λ c. raw.condition c ≡ raw.condition said.now) }
+{
+    let values = texts_of(alloc, &said.values)?;
+    Ok(Condition {
+        place: said.place,
+        values,
+    })
+}
+
 fn condition(alloc: Global, said: &Option<Condition>) -> Result<Option<Condition>, AllocError>
     ensures { IfOk result (λ c. raw.condition_some c ≡ raw.condition_some said.now) }
 {
     match said {
         None => Ok(None),
         Some(said) => {
-            let values = texts_of(alloc, &said.values)?;
-            Ok(Some(Condition {
-                place: said.place,
-                values,
-            }))
+            let copy = condition_of(alloc, said)?;
+            Ok(Some(copy))
+        }
+    }
+}
+
+/// A condition on the occurrences that are walked, and the failures of what it reads within each.
+pub(crate) fn field_condition(
+    alloc: Global,
+    found: &mut Vec<Failure>,
+    scope: &[ScopeNode<'_, '_>],
+    line: u32,
+    said: &Option<gw_maplang::FieldCondition>,
+) -> Result<Option<FieldCondition>, AllocError>
+    ensures made { IfOk result (λ c. seen.some_condition c ≡ spec.condition_within (walked scope.now) (raw.field_condition_some said.now)) }
+    ensures failures { OnOk result (Notes found.old found.new (spec.condition_failures (walked scope.now) line (raw.field_condition_some said.now))) }
+{
+    match said {
+        None => Ok(None),
+        Some(said) => {
+            let from = reference(alloc, found, scope, line, &said.from)?;
+            let condition = condition_of(alloc, &said.condition)?;
+            Ok(Some(FieldCondition { from, condition }))
         }
     }
 }

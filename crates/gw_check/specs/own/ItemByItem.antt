@@ -5,6 +5,7 @@ use Rattle.gw_resolve.specs.declared.resolved.Item.{Item}
 use Rattle.gw_resolve.specs.Intervals.{Interval, never, product}
 use Rattle.gw_resolve.specs.Places.{Element, count_at, count_if, within}
 use Rattle.gw_resolve.specs.Resolved.{Items, no_items, segment_item, group_item, flat_item}
+use Rattle.gw_leaves.specs.Counts.{chosen_count}
 use Rattle.gw_check.specs.Counts.{items_count}
 use Rattle.gw_check.specs.Levels.{its, beyond}
 use Rattle.gw_resolve.specs.Seen.{interval, saturated, with_item, all_items}
@@ -13,9 +14,9 @@ use Rattle.gw_resolve.specs.declared.interval.Interval as declared
 -- how often the first item comes
 abbrev pub first_count : List Element → Items → Interval
 first_count scope no_items = never
-first_count scope (segment_item s rest) = count_if scope s.place
-first_count scope (group_item g items rest) = count_at scope g.place
-first_count scope (flat_item f items rest) = product (count_at scope f.place) (items_count (within scope f.place) items)
+first_count scope (segment_item s rest) = chosen_count s.condition (count_if scope s.place)
+first_count scope (group_item g items rest) = chosen_count g.condition (count_at scope g.place)
+first_count scope (flat_item f items rest) = product (chosen_count f.condition (count_at scope f.place)) (items_count (within scope f.place) items)
 
 -- the program's count of one item, and of many, whatever the map's tables are
 abbrev pub CountsOne : List Element → Item → declared.Interval → Type 0

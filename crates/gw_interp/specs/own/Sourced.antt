@@ -1,12 +1,14 @@
 -- What the program reads at the sources of a map.
-use Rattle.std.specs.Prelude.{◌≡◌, ℕ, ◌<◌, List, [], Option, Some, None}
+use Rattle.std.specs.Prelude.{◌≡◌, ℕ, ◌<◌, Bool, true, false, List, [], ◌∷◌, Option, Some, None}
+use Rattle.std.specs.List.{AllByRecursion}
 use Rattle.std.specs.FinMap as texts
 use Rattle.gw_er7.specs.Message.{Texts, text_of, SegmentValue}
 use Rattle.gw_er7.specs.Presence.{RepAt}
 use Rattle.gw_interp.specs.declared.reading.Repetition.{Repetition}
 use Rattle.gw_interp.specs.declared.reading.Reading.{Reading}
-use Rattle.gw_resolve.specs.Resolved.{Leaf, const, copied, looked_up, dated}
-use Rattle.gw_interp.specs.Meaning.{IsFirst, Walked, SourceMeans, look_up, LeafMeans}
+use Rattle.gw_resolve.specs.Resolved.{FieldCondition, Leaf, const, copied, looked_up, dated, Alternative}
+use Rattle.gw_interp.specs.Meaning.{IsFirst, Walked, meets, SourceMeans, look_up, LeafMeans, FirstText}
+use Rattle.gw_interp.specs.Occurrences.{Occurrence}
 use Rattle.gw_interp.specs.own.Borrowed.{scope}
 
 -- no text where there is no segment
@@ -53,3 +55,23 @@ IsFault w (dated digits source) = ⊥
 abbrev pub LeafGives : Walked → Leaf → Option (List ℕ) → Type 0
 LeafGives w leaf None = IsFault w leaf
 LeafGives w leaf (Some text) = LeafMeans w leaf text
+
+-- a text or a fault, so that the leaves behind aren't asked
+abbrev pub settles : Option (List ℕ) → Bool
+settles None = true
+settles (Some []) = false
+settles (Some (b ∷ text)) = true
+
+-- none of these leaves is a fault
+abbrev pub NoFaultOf : Walked → List Alternative → Type 0
+NoFaultOf w all = AllByRecursion (λ (o : Alternative). IsFault w o.leaf → ⊥) all
+
+-- the first text that one of these leaves gives, or some leaf is a fault
+abbrev pub FirstGives : Walked → List Alternative → Option (List ℕ) → Type 0
+FirstGives w all None = NoFaultOf w all → ⊥
+FirstGives w all (Some text) = FirstText w all text
+
+-- a condition holds where these occurrences are walked, or there is none
+abbrev pub is_met : List SegmentValue → List Occurrence → Option FieldCondition → Bool
+is_met m scope None = true
+is_met m scope (Some c) = meets m scope c

@@ -5,10 +5,11 @@ use Rattle.gw_profile.specs.declared.shape.SubShape.{SubShape}
 use Rattle.gw_profile.specs.Numbered.{some_sub}
 use Rattle.gw_profile.specs.Seen.{field, profile_value}
 use Rattle.gw_maplang.specs.Seen.{now}
+use Rattle.gw_resolve.specs.declared.resolved.Alternative as the_others
 use Rattle.gw_resolve.specs.declared.resolved.At as ats
 use Rattle.gw_resolve.specs.Places.{Known}
-use Rattle.gw_resolve.specs.Resolved.{At}
-use Rattle.gw_resolve.specs.Seen.{interval, saturated, at_leaf}
+use Rattle.gw_resolve.specs.Resolved.{Alternative, At}
+use Rattle.gw_resolve.specs.Seen.{interval, saturated, alternative, at_leaf}
 use Rattle.gw_leaves.specs.declared.given.LeafSource.{LeafSource}
 use Rattle.gw_leaves.specs.declared.known.Known as the_known
 use Rattle.gw_leaves.specs.declared.sources.Sources.{Sources}
@@ -19,6 +20,9 @@ use Rattle.gw_leaves.specs.own.Comparisons.{rowed}
 
 abbrev pub leaves_value : Sources → List ats.At → List At
 leaves_value s leaves = map (at_leaf (map_tables s)) leaves
+
+abbrev pub others_value : Sources → List the_others.Alternative → List Alternative
+others_value s others = map (alternative (map_tables s)) others
 
 -- what is read of a subcomponent, as it is or looked up
 abbrev pub source_values : ContextValue → Option (Bor SubShape) → Values

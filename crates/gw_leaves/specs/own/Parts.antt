@@ -4,7 +4,7 @@ use Rattle.std.specs.List.{list_any, list_all}
 use Rattle.gw_resolve.specs.Resolved.{At}
 use Rattle.gw_leaves.specs.declared.parts.Part.{Part}
 use Rattle.gw_leaves.specs.declared.parts.Part.TheVariants.{Field, Comp, Sub}
-use Rattle.gw_leaves.specs.Leaves.{Sources, leaf_shape, is_always, is_absent}
+use Rattle.gw_leaves.specs.Leaves.{Sources, at_presence, is_always, is_absent}
 
 -- what is at this place is in the part, and is always there
 abbrev pub is_sure_in : Part → ℕ → ℕ → Bool → Bool
@@ -19,7 +19,7 @@ is_not_beside (Comp part) comp sub never = comp == part || never
 is_not_beside (Sub part inner) comp sub never = not (comp == part) || sub == inner || never
 
 abbrev pub some_sure : Sources → Part → List At → Bool
-some_sure s part leaves = list_any (λ a. is_sure_in part a.comp a.sub (is_always (leaf_shape s a.leaf).presence)) leaves
+some_sure s part leaves = list_any (λ a. is_sure_in part a.comp a.sub (is_always (at_presence s a))) leaves
 
 abbrev pub none_beside : Sources → Part → List At → Bool
-none_beside s part leaves = list_all (λ a. is_not_beside part a.comp a.sub (is_absent (leaf_shape s a.leaf).presence)) leaves
+none_beside s part leaves = list_all (λ a. is_not_beside part a.comp a.sub (is_absent (at_presence s a))) leaves

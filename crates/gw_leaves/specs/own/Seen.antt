@@ -67,6 +67,10 @@ dated_failures to at presence digits sub =
 abbrev pub leaf_failures : Sources → FailureSite → ResolvedLeaf → SubShape → List Failure
 leaf_failures s at l sub = spec.leaf_failures (sources_value s) (target_value s) (mark at) (leaf (map_tables s) l) (sub_value sub)
 
+-- of one of the leaves of a place
+abbrev pub other_failures : Sources → FailureSite → SubShape → resolved.Alternative → List Failure
+other_failures s at sub = spec.other_failures (sources_value s) (target_value s) (mark at) (sub_value sub)
+
 -- of a leaf at its place in this target field
 abbrev pub made_leaf : Sources → FieldShape → resolved.At → List Failure
 made_leaf s target = spec.made_leaf (sources_value s) (target_value s) (field_value target)

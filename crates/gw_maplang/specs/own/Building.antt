@@ -4,14 +4,14 @@ use Rattle.std.specs.Global.{Vec}
 use Rattle.gw_maplang.specs.declared.build.Below.{Below}
 use Rattle.gw_maplang.specs.declared.build.Head as heads
 use Rattle.gw_maplang.specs.declared.item.Item.{Item}
-use Rattle.gw_maplang.specs.Shapes.{Path, RuleValue, Items, segment}
+use Rattle.gw_maplang.specs.Shapes.{Walk, RuleValue, Items, segment}
 use Rattle.gw_maplang.specs.Line.{Line}
 use Rattle.gw_maplang.specs.Value.{Parts, Levels, Head, parts, levels, drops, each_item}
-use Rattle.gw_maplang.specs.Seen.{leaf_value, rule, dropped, with_item, all_items}
+use Rattle.gw_maplang.specs.Seen.{alternative, leaf_value, rule, dropped, with_item, all_items}
 
 -- lists that were built from their last item on
 abbrev pub parts_of : Below → Parts
-parts_of b = record { leaves = map leaf_value (reverse b.leaves.items); rules = map rule (reverse b.rules.items) }
+parts_of b = record { others = map alternative (reverse b.others.items); leaves = map leaf_value (reverse b.leaves.items); rules = map rule (reverse b.rules.items) }
 
 abbrev pub all_behind : List (Vec Item) → List Items
 all_behind behind = reverse (map (λ v. all_items (reverse v.items)) behind)
@@ -30,12 +30,12 @@ abbrev pub Grows : Below → Below → Line → Type 0
 Grows old new line = (lines : List Line) → Stands old lines → Stands new (line ∷ lines)
 
 -- the item is a segment of these rules
-abbrev pub IsSegment : Item → ℕ → List ℕ → Option Path → List RuleValue → Type 0
+abbrev pub IsSegment : Item → ℕ → List ℕ → Option Walk → List RuleValue → Type 0
 IsSegment item at label source rules = (rest : Items) → with_item item rest ≡ segment (record { line = at; label = label; source = source; rules = rules }) rest
 
 -- the item is a group or flat of these items
-abbrev pub IsEach : Item → ℕ → Option (List ℕ) → Path → List Item → Type 0
-IsEach item at label path items = (rest : Items) → with_item item rest ≡ each_item at label path (all_items items) rest
+abbrev pub IsEach : Item → ℕ → Option (List ℕ) → Walk → List Item → Type 0
+IsEach item at label walk items = (rest : Items) → with_item item rest ≡ each_item at label walk (all_items items) rest
 
 abbrev pub head_value : heads.Head → Head
 head_value h = record { line = h.line; name = h.name.items; source = h.source.items; target = h.target.items }

@@ -3,7 +3,7 @@ use Rattle.std.specs.Prelude.{◌≡◌, ℕ, ◌+◌, Bool, false, not, if◌th
 use Rattle.std.specs.Global.{Vec}
 use Rattle.gw_profile.specs.Line.{allows}
 use Rattle.gw_profile.specs.Shapes.{Forest}
-use Rattle.gw_maplang.specs.Shapes.{Path, Items}
+use Rattle.gw_maplang.specs.Shapes.{Path, Walk, Items}
 use Rattle.gw_resolve.specs.Founds.{found_value, saturated_found, times_element}
 use Rattle.gw_resolve.specs.Places.{Element, a_segment, a_group, the_whole, nodes_of, Place, Found, found, element_of, within}
 use denote.Ref.{Bor}
@@ -15,7 +15,7 @@ use Rattle.gw_resolve.specs.Failures.{Failure, at_line, fails, where_so}
 use Rattle.gw_resolve.specs.Order.{is_segment, is_group}
 use Rattle.gw_resolve.specs.declared.led.PathUse as uses
 use Rattle.gw_resolve.specs.declared.targets.NodeKind as kinds
-use Rattle.gw_resolve.specs.Naming.{has_label, itself, or_else, steps_of, place_of, place_or, but_last, has_place, ends_at_segment, is_single_place, walk_failures, path_failures}
+use Rattle.gw_resolve.specs.Naming.{has_label, itself, or_else, steps_of, place_of, place_or, but_last, has_place, ends_at_segment, is_single_place, walk_failures, condition_failures, path_failures}
 
 -- the node of this number of the innermost element
 abbrev pub inwards : ℕ → Place
@@ -42,9 +42,12 @@ comes_often (Some (the_whole nodes)) = false
 abbrev pub place_there : Option (Bor places.ScopePath) → Option Place
 place_there p = option_map (λ (b : Bor places.ScopePath). place b.now) p
 
--- the failures of a path that is walked, and of the items within
-abbrev pub each_within : List Element → ℕ → Path → Items → List Failure
-each_within scope line path items = walk_failures scope line path ++ where_so (has_place (place_of scope path)) (path_failures (within scope (place_or scope path)) items)
+-- the failures of a path that is walked, and of its condition and the items within
+abbrev pub each_within : List Element → ℕ → Walk → Items → List Failure
+each_within scope line walk items =
+    walk_failures scope line walk.path
+    ++ where_so (has_place (place_of scope walk.path))
+    (condition_failures (within scope (place_or scope walk.path)) line walk.condition ++ path_failures (within scope (place_or scope walk.path)) items)
 
 -- the steps that may not come often: of what is walked all but the last
 abbrev pub single_steps : uses.PathUse → List ℕ → List ℕ

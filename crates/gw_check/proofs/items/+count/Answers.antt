@@ -6,7 +6,7 @@ use Rattle.gw_check.proofs.items.+count.Goals as goal
 
 pub item_count-returns-in_ok-each-in-Flat : goal.item_count-returns-in_ok-each-in-Flat
 item_count-returns-in_ok-each-in-Flat t c =
-    count_flat (scope c.args.scope.now) (scope c.deref.result.now) c.args.item.now c.in-Flat.flat c.count_at-in-Flat.result c.in_ok-each-in-Flat.each c.times.result c.in-Flat.is c.count_at-in-Flat.ensures
+    count_flat (scope c.args.scope.now) (scope c.deref.result.now) c.args.item.now c.in-Flat.flat c.chosen_at-in-Flat.result c.in_ok-each-in-Flat.each c.times.result c.in-Flat.is c.chosen_at-in-Flat.ensures
     (ap scope c.deref.ensures.value ∙ c.in_ok-inner-in-Flat.ensures) (subst (λ l. CountsAll (scope c.deref.result.now) l c.in_ok-each-in-Flat.each) c.deref-in-Flat.ensures.value c.in_ok-each-in-Flat.ensures) c.times.ensures
 
 pub items_count-loop-left-preserved : goal.items_count-loop-left-preserved

@@ -1,4 +1,4 @@
-use Rattle.std.proofs.Common.{rules, sym, ap, ◌∙◌, ◌≡◌, ◌≤◌, List, ℕ, subst, arith, ◌∷◌, []}
+use Rattle.std.proofs.Common.{rules, sym, ap, ◌∙◌, ◌≡◌, ◌≤◌, true, false, List, ℕ, subst, arith, ◌∷◌, []}
 use Rattle.std.specs.Prelude.{flat_map}
 use Rattle.gw_er7.proofs.Sequences.{first_is}
 use Rattle.gw_profile.specs.Seen.{forest}
@@ -8,10 +8,10 @@ use Rattle.gw_interp.specs.Occurrences.{below, in_scope}
 use Rattle.gw_interp.specs.own.Borrowed.{occurrence, scope, AreOf}
 use Rattle.gw_interp.specs.own.Filling.{message_of}
 use Rattle.gw_interp.specs.own.Ready.{MayBegin, Adds}
-use Rattle.gw_interp.specs.own.Parts.{each_names, MayEach, EachGives}
+use Rattle.gw_interp.specs.own.Parts.{part_names, MayPart, PartGives, MaySegment, GivesSegment, each_names, MayEach, EachGives}
 use Rattle.gw_interp.proofs.Fills.{on_ok}
 use Rattle.gw_interp.proofs.Borrowing.{no_children, at_one}
-use Rattle.gw_interp.proofs.Eachs.{none_below, child_begins, child_may, child_done, all_below, none_given, here_given}
+use Rattle.gw_interp.proofs.Eachs.{none_below, child_begins, child_may, child_done, all_below, none_given, here_given, held, none_so, so_begins, so_may, so_adds, segments_begin, segments_may, segments_given}
 use Rattle.gw_interp.proofs.Levels.{group_begins, group_may, group_gives, flat_begins, flat_may, flat_gives, next_begins, next_may, next_item, all_given}
 use Rattle.gw_interp.proofs.Weights.{weight_one, weight_all, lighter_group, lighter_flat, not_heavier}
 use Rattle.gw_interp.proofs.items.+items.Goals as goal
@@ -91,6 +91,94 @@ put_each-put_below-requires t c =
         ),
       ),
     )
+
+-- ---- a part, where its condition holds
+
+pub put_part-returns-then-not-is_met-clause-adds : goal.put_part-returns-then-not-is_met-clause-adds
+put_part-returns-then-not-is_met-clause-adds t c =
+    none_so c.args.rows.now.tables c.args.part.now (message_of c.args.scope.now.items) (scope c.args.scope.now.items) c.args.builder.now
+    (held false c.args.part.now c.condition_of.result.now c.args.scope.now.items c.deref.result.now c.deref.ensures.value c.condition_of.ensures c.requires.of c.if-not-is_met.ensures)
+
+pub put_part-put_one-requires : goal.put_part-put_one-requires
+put_part-put_one-requires t c =
+    let m = message_of c.args.scope.now.items in
+    let os = scope c.args.scope.now.items in
+    let tables = c.args.rows.now.tables in
+    let is = held true c.args.part.now c.condition_of.result.now c.args.scope.now.items c.deref.result.now c.deref.ensures.value c.condition_of.ensures c.requires.of c.if-not-is_met.ensures in
+    let same = sym c.deref-in-OneSegment.ensures.value in
+    record {
+      of = subst (λ (w : List OccValue). AreOf (message_of w) w) same c.requires.of;
+      lawful = c.requires.lawful;
+      begin = subst (λ p. MayBegin c.args.builder.now (part_names tables p m os)) c.in-OneSegment.is (so_begins tables c.args.part.now m os c.args.builder.now is c.requires.begin);
+      may =
+          subst (λ (w : List OccValue). MaySegment tables c.in-OneSegment.nodes.now c.in-OneSegment.item.now w) same
+          (subst (λ p. MayPart tables p m os) c.in-OneSegment.is (so_may tables c.args.part.now m os is c.requires.may));
+    }
+
+pub put_part-put_items-requires : goal.put_part-put_items-requires
+put_part-put_items-requires t c =
+    let m = message_of c.args.scope.now.items in
+    let os = scope c.args.scope.now.items in
+    let tables = c.args.rows.now.tables in
+    let is = held true c.args.part.now c.condition_of.result.now c.args.scope.now.items c.deref.result.now c.deref.ensures.value c.condition_of.ensures c.requires.of c.if-not-is_met.ensures in (
+      search rules,
+      (
+        c.requires.of,
+        (
+          c.requires.lawful,
+          (
+            subst (λ p. MayBegin c.args.builder.now (part_names tables p m os)) c.in-Level.is (so_begins tables c.args.part.now m os c.args.builder.now is c.requires.begin),
+            subst (λ p. MayPart tables p m os) c.in-Level.is (so_may tables c.args.part.now m os is c.requires.may),
+          ),
+        ),
+      ),
+    )
+
+pub put_part-returns-in-OneSegment-clause-adds : goal.put_part-returns-in-OneSegment-clause-adds
+put_part-returns-in-OneSegment-clause-adds t c =
+    let m = message_of c.args.scope.now.items in
+    let os = scope c.args.scope.now.items in
+    let tables = c.args.rows.now.tables in
+    let is = held true c.args.part.now c.condition_of.result.now c.args.scope.now.items c.deref.result.now c.deref.ensures.value c.condition_of.ensures c.requires.of c.if-not-is_met.ensures in
+    on_ok _ _ c.put_one.result
+    (λ a. so_adds tables c.args.part.now m os c.args.builder.now c.put_one.new.builder is
+    (subst (λ p. Adds (PartGives tables p m os) c.args.builder.now c.put_one.new.builder) (sym c.in-OneSegment.is)
+    (subst (λ (w : List OccValue). Adds (GivesSegment tables c.in-OneSegment.nodes.now c.in-OneSegment.item.now w) c.args.builder.now c.put_one.new.builder) c.deref-in-OneSegment.ensures.value a)))
+    c.put_one.ensures.adds
+
+pub put_part-returns-in-Level-clause-adds : goal.put_part-returns-in-Level-clause-adds
+put_part-returns-in-Level-clause-adds t c =
+    let m = message_of c.args.scope.now.items in
+    let os = scope c.args.scope.now.items in
+    let tables = c.args.rows.now.tables in
+    let is = held true c.args.part.now c.condition_of.result.now c.args.scope.now.items c.deref.result.now c.deref.ensures.value c.condition_of.ensures c.requires.of c.if-not-is_met.ensures in
+    on_ok _ _ c.put_items.result
+    (λ a. so_adds tables c.args.part.now m os c.args.builder.now c.put_items.new.builder is
+    (subst (λ p. Adds (PartGives tables p m os) c.args.builder.now c.put_items.new.builder) (sym c.in-Level.is) a))
+    c.put_items.ensures.adds
+
+-- ---- the segments of an item
+
+pub put_segments-put_each-requires : goal.put_segments-put_each-requires
+put_segments-put_each-requires t c = (
+  search rules,
+  (
+    c.requires.of,
+    (
+      c.requires.lawful,
+      (
+        segments_begin c.args.rows.now.tables c.args.nodes.now c.args.item.now c.args.scope.now.items c.in-Some.place c.in-Some.is c.args.builder.now c.requires.begin,
+        segments_may c.args.rows.now.tables c.args.nodes.now c.args.item.now c.args.scope.now.items c.in-Some.place c.in-Some.is c.requires.may,
+      ),
+    ),
+  ),
+)
+
+pub put_segments-returns-in-Some-clause-adds : goal.put_segments-returns-in-Some-clause-adds
+put_segments-returns-in-Some-clause-adds t c =
+    on_ok _ _ c.put_each.result
+    (segments_given c.args.rows.now.tables c.args.nodes.now c.args.item.now c.args.scope.now.items c.in-Some.place c.in-Some.is c.args.builder.now c.put_each.new.builder)
+    c.put_each.ensures.adds
 
 -- ---- one item
 

@@ -17,3 +17,6 @@ returns-then-eq-4 c = c.row_pattern.ensures ∙ of_word (pattern c.args.second) 
 
 pub returns-then-eq-5 : goal.returns-then-eq-5
 returns-then-eq-5 c = c.else_pattern.ensures ∙ of_word (pattern c.args.second) _ _ _ _ c.as_slice-5.ensures c.eq-5.ensures c.if-eq-5.true
+
+pub returns-then-eq-6 : goal.returns-then-eq-6
+returns-then-eq-6 c = c.or_pattern.ensures ∙ of_word (pattern c.args.second) _ _ _ _ c.as_slice-6.ensures c.eq-6.ensures c.if-eq-6.true

@@ -16,8 +16,8 @@ child_first i is c h tables = h tables ∙ go i
   where
     go : (i : Item) → first_child (with_item tables i no_items) ≡ first_child (with_item tables i (all_items tables is))
     go (Segment s) = refl
-    go (Group' line child from shape row) = refl
-    go (Flat' line from shape row) = refl
+    go (Group' line child from asked shape row) = refl
+    go (Flat' line from asked shape row) = refl
 
 child_at_first : (items : List Item) (i : Item) (c : Option ℕ) → 1 ≤ length items → i ≡ get_or items 0 i → ChildOf i c → FirstChild items c
 child_at_first [] i c some is h = absurd (omega (arith, some))

@@ -11,7 +11,7 @@ pub returns : goal.returns
 returns c = record {
   item = λ tables rest.
       rw (c.segment.ensures.item, ← c.deref.ensures.value, ← c.deref-2.ensures.value)
-      (λ i. segment_item (record { line = c.args.made.now.line; child = c.in_ok-aimed.ensures.child i; place = None; rules = c.in_ok-rules.ensures.made tables i })
+      (λ i. segment_item (record { line = c.args.made.now.line; child = c.in_ok-aimed.ensures.child i; place = None; condition = None; rules = c.in_ok-rules.ensures.made tables i })
       (spec.resolved_items tables (walked c.args.scope.now) (nodes_in c.args.level) rest));
   node = c.segment.ensures.node ∙ c.in_ok-aimed.ensures.node ∙ ap (spec.node_or c.args.j (nodes_in c.args.level)) c.deref.ensures.value;
   paths = rules_paths (failures c.args.lost.now.paths.items) (walked c.args.scope.now) _ _ _ c.deref-2.ensures.value c.in_ok-rules.ensures.failures;
