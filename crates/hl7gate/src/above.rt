@@ -135,34 +135,50 @@ fn begins_anew(kind: &[u8], keyword: &[u8]) -> bool {
     false
 }
 
+/// The number of the last line that says something at the current level, and of those at each level around it; 0 where none does.
+#[derive(Drop)]
+struct LastSaid {
+    number: u32,
+    outer: Vec<u32>,
+}
+
+impl LastSaid {
+    // A line with this keyword may begin a level, or end one.
+    fn pass(&mut self, keyword: &[u8]) -> Result<(), AllocError> {
+        if keyword == b"group".as_slice() {
+            self.outer.push(self.number)?;
+            self.number = 0;
+        } else if keyword == b"end".as_slice() {
+            self.number = self.outer.pop().unwrap_or(0);
+        }
+        Ok(())
+    }
+}
+
 /// The number of the last line above this one that says what it says, at the same level; 0 where none does.
 pub(crate) fn said_above(alloc: Global, text: &[u8], line: u32) -> Result<u32, AllocError> {
     let words = words_in(alloc, line_at(text, line))?;
     let said = said_in(&words);
     let senders = senders_in(&words);
     let sorted = sorted_words(alloc, senders)?;
-    // (of each level around the current one)
-    let mut outer: Vec<u32> = Vec::new(alloc);
-    let mut found = 0;
+    let mut last = LastSaid {
+        number: 0,
+        outer: Vec::new(alloc),
+    };
     let mut rest = text;
     for number in 1..line {
         let words = words_in(alloc, line_at(rest, 1))?;
         rest = behind(rest, 1);
         let keyword = word_at(&words, 0);
         if begins_anew(said.kind, keyword) {
-            found = 0;
+            last.number = 0;
         }
         if said_in(&words) == said && takes_of(&words, senders, &sorted) {
-            found = number;
+            last.number = number;
         }
-        if keyword == b"group".as_slice() {
-            outer.push(found)?;
-            found = 0;
-        } else if keyword == b"end".as_slice() {
-            found = outer.pop().unwrap_or(0);
-        }
+        last.pass(keyword)?;
     }
-    Ok(found)
+    Ok(last.number)
 }
 
 /// The number of the innermost group or flat that is open at a line; 0 where none is.

@@ -2,7 +2,7 @@
 use crate::elements::{Named, print_name};
 use crate::maps::ProfilePair;
 use crate::report::say;
-use crate::subjects::{Explanation, Search};
+use crate::subjects::{Explanation, Searches};
 use gw_check::{SourceUse, site_at};
 use gw_maplang::Map;
 use gw_resolve::Failure;
@@ -199,19 +199,14 @@ impl<'a> Refusal<'a> {
     }
 
     /// Reports what the line of a failure makes, and of what.
-    fn print_made<E: Write>(
-        &self,
-        errors: &mut E,
-        failure: Failure,
-        last: &mut Option<Search<'a>>,
-    ) {
+    fn print_made<E: Write>(&self, errors: &mut E, failure: Failure, searches: &mut Searches<'a>) {
         if let Some(site) = site_at(&self.refused.used.sites, failure.mark.line) {
             let explanation = Explanation {
                 sides: self.sides,
                 map: &self.refused.map,
                 site,
             };
-            explanation.tell(errors, failure, last);
+            explanation.tell(errors, failure, searches);
         }
     }
 
@@ -220,7 +215,7 @@ impl<'a> Refusal<'a> {
         &self,
         errors: &mut E,
         failures: &[Failure],
-        last: &mut Option<Search<'a>>,
+        searches: &mut Searches<'a>,
     ) {
         let is_told = self.print_missing(errors, failures);
         let Some(given) = first_given(failures) else {
@@ -232,7 +227,7 @@ impl<'a> Refusal<'a> {
         if given.rule == 9 {
             self.print_unread(errors);
         } else {
-            self.print_made(errors, given, last);
+            self.print_made(errors, given, searches);
         }
     }
 
@@ -242,7 +237,7 @@ impl<'a> Refusal<'a> {
         errors: &mut E,
         failures: &[Failure],
         text: &[u8],
-        last: &mut Option<Search<'a>>,
+        searches: &mut Searches<'a>,
     ) {
         let Some(first) = failures.first() else {
             return;
@@ -256,13 +251,13 @@ impl<'a> Refusal<'a> {
             say(errors, b": ");
             say(errors, demand(rule));
         } else {
-            self.print_subject(errors, failures, last);
+            self.print_subject(errors, failures, searches);
         }
         say(errors, b"\n");
     }
 
     /// Reports how many more rules fail, and each in a line of its own.
-    fn print_others<E: Write>(&self, errors: &mut E, alike: &Alike) {
+    fn print_others<E: Write>(&self, errors: &mut E, alike: &Alike, searches: &mut Searches<'a>) {
         let least = self.refused.least;
         let more = alike.len().saturating_sub(1);
         if more == 0 {
@@ -271,18 +266,18 @@ impl<'a> Refusal<'a> {
         let _ = writeln!(errors, "and {more} more:");
         let mut text = self.written.text.as_slice();
         let mut at = 1;
-        let mut last = None;
         for ((line, rule), failures) in alike {
             text = behind(text, line.saturating_sub(at));
             at = *line;
             if (*line, *rule) != (least.mark.line, least.rule) {
-                self.print_other(errors, failures, text, &mut last);
+                self.print_other(errors, failures, text, searches);
             }
         }
     }
 
     /// Reports the file with its line, what the failure speaks of, what to do, and what fails as well.
-    pub(crate) fn tell<E: Write>(&self, errors: &mut E, alike: &Alike) {
+    pub(crate) fn tell<E: Write>(&self, alloc: Global, errors: &mut E, alike: &Alike) {
+        let mut searches = BTreeMap::new(alloc);
         let Written { path, text, above } = self.written;
         let rule = self.refused.least.rule;
         let line = self.refused.least.mark.line;
@@ -293,10 +288,10 @@ impl<'a> Refusal<'a> {
         if rule > LAST_OF_LABELS
             && let Some(failures) = alike.get(&(line, rule))
         {
-            self.print_subject(errors, failures, &mut None);
+            self.print_subject(errors, failures, &mut searches);
             say(errors, b"\n");
         }
         let _ = writeln!(errors, "{}", advice(rule));
-        self.print_others(errors, alike);
+        self.print_others(errors, alike, &mut searches);
     }
 }

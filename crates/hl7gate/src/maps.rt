@@ -173,7 +173,7 @@ pub(crate) fn write_refusal<'a, O: Write, E: Write>(
 ) -> Result<u8, Ended<'a>> {
     let alike = refusal.alike(alloc)?;
     write_rule(alloc, refusal.refused.least, output)?;
-    refusal.tell(errors, &alike);
+    refusal.tell(alloc, errors, &alike);
     Ok(REFUSED)
 }
 
@@ -297,7 +297,7 @@ pub(crate) fn print_refusal<'a, E: Write>(
     let Failure { rule, mark } = refusal.refused.least;
     let line = refusal.written.above.saturating_add(mark.line);
     let _ = writeln!(errors, "refused K{rule} line {line}");
-    refusal.tell(errors, &alike);
+    refusal.tell(alloc, errors, &alike);
     Ok(REFUSED)
 }
 

@@ -6,6 +6,7 @@ use gw_check::{ElementPath, Origin, Site, Taker, untaken};
 use gw_maplang::Map;
 use gw_profile::{Count, Profile, SubShape, Usage, measure};
 use gw_resolve::{Failure, FailureSite};
+use std::collections::BTreeMap;
 use std::io::Write;
 
 /// What a line of a map makes, with the map and its profiles.
@@ -24,21 +25,23 @@ struct Parts<'a> {
 }
 
 /// What takes a text: a table of the target, rows of the map, or a length of the target.
-#[derive(Clone, Copy, PartialEq)]
+#[derive(Clone, Copy, PartialEq, Eq, PartialOrd, Ord)]
 enum TakenBy<'a> {
     Table(&'a [u8]),
     Rows(&'a [u8]),
     Length(u32),
 }
 
-/// The last search for a text that isn't taken: the source's table, the length up to which it is read, what takes it, and what was found.
-#[derive(Clone, Copy)]
+/// A search for a text that isn't taken: the source's table, the length up to which it is read, and what takes it.
+#[derive(Clone, Copy, PartialEq, Eq, PartialOrd, Ord)]
 pub(crate) struct Search<'a> {
     table: &'a [u8],
     len: Option<u32>,
     by: TakenBy<'a>,
-    found: Option<&'a [u8]>,
 }
+
+/// What such searches found.
+pub(crate) type Searches<'a> = BTreeMap<Search<'a>, Option<&'a [u8]>>;
 
 /// What a line reads, where it reads anything.
 pub(crate) fn read_of(site: &Site) -> Option<&ElementPath> {
@@ -261,29 +264,24 @@ impl<'a> Explanation<'a> {
         }
     }
 
-    /// The first text that the source lists for a subcomponent and that isn't taken. Failures of the same tables often follow each other, so the last answer is kept.
+    /// The first text that the source lists for a subcomponent and that isn't taken. It is looked for once for all failures of the same tables.
     fn untaken(
         &self,
         from: &'a SubShape,
         by: TakenBy<'a>,
-        last: &mut Option<Search<'a>>,
+        searches: &mut Searches<'a>,
     ) -> Option<&'a [u8]> {
-        let table = table_of(Some(from))?;
-        let len = from.len;
-        if let Some(search) = *last
-            && search.table == table
-            && search.len == len
-            && search.by == by
-        {
-            return search.found;
+        let search = Search {
+            table: table_of(Some(from))?,
+            len: from.len,
+            by,
+        };
+        if let Some(found) = searches.get(&search) {
+            return *found;
         }
         let found = untaken(&self.sides.source, from, self.taker(by)?);
-        *last = Some(Search {
-            table,
-            len,
-            by,
-            found,
-        });
+        // (what can't be kept is looked for anew)
+        let _ = searches.insert(search, found);
         found
     }
 
@@ -293,10 +291,10 @@ impl<'a> Explanation<'a> {
         errors: &mut E,
         from: Named<'_>,
         by: TakenBy<'a>,
-        last: &mut Option<Search<'a>>,
+        searches: &mut Searches<'a>,
     ) {
         if let Some(from) = from.sub_in(&self.sides.source)
-            && let Some(text) = self.untaken(from, by, last)
+            && let Some(text) = self.untaken(from, by, searches)
         {
             say(errors, b": ");
             say(errors, text);
@@ -310,7 +308,7 @@ impl<'a> Explanation<'a> {
         errors: &mut E,
         to: Named<'_>,
         from: Named<'_>,
-        last: &mut Option<Search<'a>>,
+        searches: &mut Searches<'a>,
     ) {
         print_table(errors, &self.sides.target, to);
         say(errors, b", and ");
@@ -318,7 +316,7 @@ impl<'a> Explanation<'a> {
         if !self.print_change(errors)
             && let Some(name) = table_of(to.sub_in(&self.sides.target))
         {
-            self.print_untaken(errors, from, TakenBy::Table(name), last);
+            self.print_untaken(errors, from, TakenBy::Table(name), searches);
         }
     }
 
@@ -328,7 +326,7 @@ impl<'a> Explanation<'a> {
         errors: &mut E,
         to: Named<'_>,
         from: Named<'_>,
-        last: &mut Option<Search<'a>>,
+        searches: &mut Searches<'a>,
     ) {
         print_length(errors, &self.sides.target, to);
         say(errors, b", and ");
@@ -336,7 +334,7 @@ impl<'a> Explanation<'a> {
         if !self.print_change(errors)
             && let Some(most) = len_of(to.sub_in(&self.sides.target))
         {
-            self.print_untaken(errors, from, TakenBy::Length(most), last);
+            self.print_untaken(errors, from, TakenBy::Length(most), searches);
         }
     }
 
@@ -345,11 +343,11 @@ impl<'a> Explanation<'a> {
         &self,
         errors: &mut E,
         parts: Parts<'_>,
-        last: &mut Option<Search<'a>>,
+        searches: &mut Searches<'a>,
     ) {
         if let (Origin::LookedUp(name, _), Some(from)) = (&self.site.origin, parts.source) {
             print_table(errors, &self.sides.source, from);
-            self.print_untaken(errors, from, TakenBy::Rows(name), last);
+            self.print_untaken(errors, from, TakenBy::Rows(name), searches);
         }
     }
 
@@ -374,14 +372,14 @@ impl<'a> Explanation<'a> {
         &self,
         errors: &mut E,
         failure: Failure,
-        last: &mut Option<Search<'a>>,
+        searches: &mut Searches<'a>,
     ) {
         let parts = parts_at(self.site, failure.mark);
         match (failure.rule, parts.source) {
-            (6, Some(from)) => self.print_strange(errors, parts.target, from, last),
-            (7, Some(from)) => self.print_long(errors, parts.target, from, last),
+            (6, Some(from)) => self.print_strange(errors, parts.target, from, searches),
+            (7, Some(from)) => self.print_long(errors, parts.target, from, searches),
             (6 | 7, None) => {}
-            (10, _) => self.print_unrowed(errors, parts, last),
+            (10, _) => self.print_unrowed(errors, parts, searches),
             (12, _) => self.print_constant(errors, parts.target),
             _ => self.print_often(errors, failure, parts),
         }

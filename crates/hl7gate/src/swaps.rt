@@ -28,17 +28,30 @@ impl From<AllocError> for Unswapped<'_> {
     }
 }
 
+/// Why a plan's file isn't read.
+fn unread(ended: Ended<'_>) -> Unswapped<'_> {
+    if matches!(ended, Ended::Run(_)) {
+        Unswapped::Gate(SwapFault::Memory)
+    } else {
+        Unswapped::Text(ended)
+    }
+}
+
+/// The text of a plan's file.
+fn read_plan<'a, R: Files + AllocGlobal>(rt: &R, path: &'a str) -> Result<Vec<u8>, Unswapped<'a>> {
+    match read_text(rt, path) {
+        Ok(text) => Ok(text),
+        Err(ended) => Err(unread(ended)),
+    }
+}
+
 /// Swaps in the plan of a file, and gives its version.
 fn swap_file<'a, L: Ledger, R: Wait + Files + Eprint + AllocGlobal>(
     door: &mut Reporter<'_, '_, L, R>,
     rt: &R,
     path: &'a str,
 ) -> Result<u64, Unswapped<'a>> {
-    let text = match read_text(rt, path) {
-        Ok(text) => text,
-        Err(Ended::Run(_)) => return Err(Unswapped::Gate(SwapFault::Memory)),
-        Err(ended) => return Err(Unswapped::Text(ended)),
-    };
+    let text = read_plan(rt, path)?;
     match swap(rt.alloc(), door, &text) {
         Ok(version) => Ok(version),
         Err(SwapFault::Plan(fault)) => {
@@ -95,7 +108,7 @@ pub(crate) fn swap_or_lines<L: Ledger, R: Wait + Files + Eprint + AllocGlobal>(
     }
 }
 
-/// Takes each of these lines in order, up to their end: `cut` closes the journal, and any other is the path of a plan to be swapped in. Where they can't be read on, standard error says so.
+/// Takes each of these lines in order, up to their end. Where they can't be read on, standard error says so.
 pub(crate) fn swap_all<L: Ledger, R: Wait + Files + Print + Eprint + AllocGlobal, I: Read + Drop>(
     service: &Service<'_, L, R>,
     paths: I,
@@ -160,10 +173,7 @@ fn swap_with<L: Ledger, R: Wait + Files + Print + Eprint + AllocGlobal, I: Read 
             Next::NoText => {
                 let _ = eprintln!(rt; "plan unread\na line of standard input isn't text");
             }
-            Next::Line => match path_of(&line) {
-                "cut" => cut_one(service, door),
-                path => swap_one(door, rt, path),
-            },
+            Next::Line => take_line(service, door, &line),
         }
     }
     unreachable!()
@@ -173,6 +183,18 @@ fn swap_with<L: Ledger, R: Wait + Files + Print + Eprint + AllocGlobal, I: Read 
 fn path_of(line: &str) -> &str {
     let path = line.strip_suffix('\n').unwrap_or(line);
     path.strip_suffix('\r').unwrap_or(path)
+}
+
+/// Does what a line says: `cut` closes the journal, and any other is the path of a plan to be swapped in.
+fn take_line<L: Ledger, R: Wait + Files + Print + Eprint + AllocGlobal>(
+    service: &Service<'_, L, R>,
+    door: &mut Reporter<'_, '_, L, R>,
+    line: &str,
+) {
+    match path_of(line) {
+        "cut" => cut_one(service, door),
+        path => swap_one(door, service.rt, path),
+    }
 }
 
 /// Swaps in the plan of a file, and prints the outcome.

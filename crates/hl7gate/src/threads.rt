@@ -264,6 +264,18 @@ impl<L: Ledger> Left<L> {
     }
 }
 
+/// Reports that a session ended, and what it answered.
+pub(crate) fn print_counts<R: Eprint>(rt: &R, number: u64, counts: Counts) {
+    let Counts {
+        answered,
+        aa,
+        ae,
+        ar,
+        ..
+    } = counts;
+    let _ = eprintln!(rt; "session {number} ended: answered {answered}, AA {aa}, AE {ae}, AR {ar}");
+}
+
 impl<L: Ledger, R: Wait + AllocGlobal + Clock + Eprint> Service<'_, L, R> {
     /// Answers the messages of a connection, up to its end.
     pub(crate) fn attend(&self, connection: Connection) {
@@ -274,18 +286,7 @@ impl<L: Ledger, R: Wait + AllocGlobal + Clock + Eprint> Service<'_, L, R> {
         } = connection;
         let _ = eprintln!(self.rt; "session {number} from {peer}");
         match self.answer(number, &stream) {
-            Ok(counts) => {
-                let Counts {
-                    answered,
-                    aa,
-                    ae,
-                    ar,
-                    ..
-                } = counts;
-                let _ = eprintln!(self.rt;
-                    "session {number} ended: answered {answered}, AA {aa}, AE {ae}, AR {ar}"
-                );
-            }
+            Ok(counts) => print_counts(self.rt, number, counts),
             Err(fault) => self.end_session(number, fault),
         }
     }

@@ -197,6 +197,20 @@ impl<'f> Receivers<'f> {
         Ok(())
     }
 
+    // Behind these, those for which something waits.
+    fn push_gone<R: Wait>(&mut self, rt: &R, gone: Receivers<'f>) -> Result<(), AllocError> {
+        let mut gone = gone;
+        for _ in 0..gone.spools.len() {
+            if let Some((to, spool)) = gone.pop()
+                && spool.waiting(rt) > 0
+            {
+                spool.resume(rt, true);
+                self.push(to, spool)?;
+            }
+        }
+        Ok(())
+    }
+
     // Takes the spool of this name out.
     fn take(&mut self, name: &[u8]) -> Option<Outgoing<'f>> {
         let number = number_in(&self.destinations, name)?;
@@ -276,14 +290,7 @@ impl<'f> Prepared<'f> {
             spool.resume(rt, false);
             receivers.push(to, spool)?;
         }
-        for _ in 0..old.spools.len() {
-            if let Some((to, spool)) = old.pop()
-                && spool.waiting(rt) > 0
-            {
-                spool.resume(rt, true);
-                receivers.push(to, spool)?;
-            }
-        }
+        receivers.push_gone(rt, old)?;
         Ok(receivers)
     }
 }

@@ -119,25 +119,32 @@ fn put_error(line: &mut Vec<u8>, error: &Segment<'_>) -> Result<(), AllocError> 
     Ok(())
 }
 
+/// Adds the time of an answer, the session and the answer's number.
+fn put_header(line: &mut Vec<u8>, session: &str, header: &Segment<'_>) -> Result<(), AllocError> {
+    line.extend_from_slice(field_of(header, 7))?;
+    put(line, session.as_bytes())?;
+    put(line, field_of(header, 10))
+}
+
+/// Adds what the line of an answer has of a segment.
+fn put_segment(line: &mut Vec<u8>, session: &str, segment: &Segment<'_>) -> Result<(), AllocError> {
+    match &segment.name() {
+        b"MSH" => put_header(line, session, segment),
+        b"MSA" => {
+            put(line, field_of(segment, 2))?;
+            put(line, field_of(segment, 1))
+        }
+        b"ERR" => put_error(line, segment),
+        _ => Ok(()),
+    }
+}
+
 /// The line of an answer: its time and number, the session, the message's control id, MSA-1, and the code and place of ERR.
 fn line_of(alloc: Global, session: u64, answer: &Message) -> Result<Vec<u8>, AllocError> {
+    let session = format!(in alloc; "session {session}")?;
     let mut line = Vec::new(alloc);
     for i in 0..answer.segment_count() {
-        let segment = answer.segment(i);
-        match &segment.name() {
-            b"MSH" => {
-                line.extend_from_slice(field_of(&segment, 7))?;
-                let session = format!(in alloc; "session {session}")?;
-                put(&mut line, session.as_bytes())?;
-                put(&mut line, field_of(&segment, 10))?;
-            }
-            b"MSA" => {
-                put(&mut line, field_of(&segment, 2))?;
-                put(&mut line, field_of(&segment, 1))?;
-            }
-            b"ERR" => put_error(&mut line, &segment)?,
-            _ => {}
-        }
+        put_segment(&mut line, session.as_str(), &answer.segment(i))?;
     }
     line.push(b'\n')?;
     Ok(line)

@@ -2,7 +2,7 @@
 ghost use Rattle.std.specs.Prelude.{◌≡◌};
 ghost use Rattle.std.specs.Thread.{IsSend, IsSync};
 
-use crate::doors::Who;
+use crate::doors::{Reporter, Who};
 use crate::gateway::hub::Hub;
 use crate::gateway::numbers::Numbers;
 use crate::gateway::outgoing::Filling;
@@ -64,7 +64,26 @@ fn spool<L: Ledger, R: Wait + Clock + Files<File = File> + Eprint + AllocGlobal>
     }
 }
 
-/// Works on jobs, until no message will arrive any more. A job whose work met an allocation failure is issued again.
+/// Works on the jobs of this door, until no message will arrive any more. A job whose work met an allocation failure is issued again.
+fn work_at<L: Ledger, R: Wait + Clock + Eprint + AllocGlobal>(
+    service: &Service<'_, L, R>,
+    door: &mut Reporter<'_, '_, L, R>,
+    number: u64,
+) -> Result<(), RunFault> {
+    for _ in service.rt.forever() {
+        let Err((fault, job)) = worker(service.rt.alloc(), door, &mut Onward) else {
+            return Ok(());
+        };
+        let _ = eprintln!(service.rt;
+            "worker {number}: fault {}: {fault}; it goes on",
+            fault.number()
+        );
+        service.reissue(door, job)?;
+    }
+    unreachable!()
+}
+
+/// Works on jobs, until no message will arrive any more.
 fn work<L: Ledger, R: Wait + Clock + Eprint + AllocGlobal>(
     service: &Service<'_, L, R>,
     hub: &Hub<'_, R>,
@@ -74,22 +93,11 @@ fn work<L: Ledger, R: Wait + Clock + Eprint + AllocGlobal>(
         hub.fail(RunFault::Memory);
         return;
     };
-    for _ in hub.rt.forever() {
-        match worker(hub.rt.alloc(), &mut door, &mut Onward) {
-            Ok(_) => break,
-            Err((fault, job)) => {
-                let _ = eprintln!(hub.rt;
-                    "worker {number}: fault {}: {fault}; it goes on",
-                    fault.number()
-                );
-                if service.reissue(&mut door, job).is_err() {
-                    hub.fail(RunFault::Memory);
-                    break;
-                }
-            }
-        }
-    }
+    let worked = work_at(service, &mut door, number);
     service.hand_in(door);
+    if let Err(fault) = worked {
+        hub.fail(fault);
+    }
 }
 
 /// Has senders attended to, a thread each, until the round takes no message any more, and waits for them.

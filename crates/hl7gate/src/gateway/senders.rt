@@ -10,7 +10,7 @@ use crate::gateway::refusals::Logged;
 use crate::gateway::safety::{Needs, Waiting};
 use crate::gateway::whole::{End, Held, Whole};
 use crate::stamps::Utc;
-use crate::threads::Service;
+use crate::threads::{Service, print_counts};
 use gw_ack::Reply as Said;
 use gw_er7::Message;
 use gw_forward::Barrier;
@@ -54,8 +54,8 @@ impl<L: Ledger, R: Wait + Eprint> Gatekeeper<'_, '_, '_, L, R> {
 
     // A message is refused that no plan can judge: its number, or 0 where the journal is full, or an allocation fails.
     fn refuse(&mut self) -> u64 {
-        match self.call(Event::Refuse(INTERNAL)) {
-            Ok(Reply::Refused { arrival }) => arrival,
+        match &self.call(Event::Refuse(INTERNAL)) {
+            Ok(Reply::Refused { arrival }) => *arrival,
             _ => 0,
         }
     }
@@ -217,18 +217,7 @@ pub(crate) fn attend<L: Ledger, R: Wait + AllocGlobal + Clock + Eprint>(
             hub.lobby.queue(hub.rt, sender);
             return;
         }
-        Ok(End::Gone) => {
-            let Counts {
-                answered,
-                aa,
-                ae,
-                ar,
-                ..
-            } = sender.counts;
-            let _ = eprintln!(hub.rt;
-                "session {number} ended: answered {answered}, AA {aa}, AE {ae}, AR {ar}"
-            );
-        }
+        Ok(End::Gone) => print_counts(hub.rt, number, sender.counts),
         Err(fault) => {
             let _ = eprintln!(hub.rt; "session {number} ended: fault {}: {fault}", fault.number());
         }

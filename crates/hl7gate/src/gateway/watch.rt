@@ -99,6 +99,27 @@ fn refusal_of(alloc: Global, noted: &Noted) -> Result<Refusal, AllocError> {
     })
 }
 
+/// How often each code was answered.
+fn codes_of(alloc: Global, counts: &[u64; CODES]) -> Result<Vec<Refused>, AllocError> {
+    let mut codes = Vec::with_capacity(alloc, CODES)?;
+    for (code, count) in CODE.iter().zip(counts) {
+        codes.push(Refused {
+            code: *code,
+            count: *count,
+        })?;
+    }
+    Ok(codes)
+}
+
+/// How many answers these are in all.
+fn sum_of(counts: &[u64; CODES]) -> u64 {
+    let mut sum: u64 = 0;
+    for count in counts {
+        sum = sum.saturating_add(*count);
+    }
+    sum
+}
+
 impl Watch {
     pub(crate) fn new(alloc: Global) -> Result<Self, AllocError> {
         Ok(Watch {
@@ -127,12 +148,7 @@ impl Watch {
 
     /// How many messages were refused.
     pub(crate) fn refused<R: Wait>(&self, rt: &R) -> u64 {
-        let refusals = self.refusals.lock(rt);
-        let mut refused: u64 = 0;
-        for count in &refusals.counts {
-            refused = refused.saturating_add(*count);
-        }
-        refused
+        sum_of(&self.refusals.lock(rt).counts)
     }
 
     // A copy of what is under the lock, in room that was made before.
@@ -156,19 +172,10 @@ impl Watch {
         for noted in last.iter().rev() {
             refusals.push(refusal_of(alloc, noted)?)?;
         }
-        let mut codes = Vec::with_capacity(alloc, CODES)?;
-        let mut refused: u64 = 0;
-        for (code, count) in CODE.iter().zip(&counts) {
-            refused = refused.saturating_add(*count);
-            codes.push(Refused {
-                code: *code,
-                count: *count,
-            })?;
-        }
         Ok(Seen {
             refusals,
-            codes,
-            refused,
+            codes: codes_of(alloc, &counts)?,
+            refused: sum_of(&counts),
         })
     }
 }
