@@ -5,3 +5,4 @@ pub mod Conditions
 pub mod Answers
 pub mod Seen
 pub mod Acknowledged
+pub mod own

@@ -1,9 +1,11 @@
 //! What an answer takes from the header of the message that it answers.
-ghost use Rattle.std.specs.Prelude.{◌≡◌, IfOk, ◌++◌, OnOk, List, ℕ, length};
+ghost use Rattle.std.specs.Prelude.{◌≡◌, IfOk, ◌++◌, ◌∷◌, [], OnOk, List, ℕ, length};
 ghost use Rattle.std.specs.FinMap as texts;
-ghost use Rattle.gw_er7.specs.Message.{text_of};
+ghost use Rattle.gw_er7.specs.Entries.{Entry};
+ghost use Rattle.gw_er7.specs.Message.{numbers, text_of};
 ghost use Rattle.gw_ack.specs.Headers.{control_of, HeaderValue, IsHeaderValue, header_of, blank};
-ghost use Rattle.gw_ack.specs.Seen.{entries, rows, text_in};
+ghost use Rattle.gw_ack.specs.Seen.{rows, text_in};
+ghost use Rattle.gw_ack.specs.own.Kept.{Copies, is_copied};
 ghost use Rattle.gw_ack.specs.Answers.{copied, or_production};
 
 use crate::rows::{add_copy, add_field};
@@ -21,7 +23,7 @@ pub(crate) struct Span {
     len: usize,
 }
 
-/// A text of the header segment.
+/// A text of the header segment that an answer copies.
 #[derive(Drop)]
 pub(crate) struct HeaderText {
     pub(crate) place: Place,
@@ -101,22 +103,45 @@ pub fn control_of(message: &Message) -> &[u8]
     first_text(&message.segment(0), 10)
 }
 
-/// The texts of a segment, each with its place. Their bytes go behind the others.
+// Whether an answer copies the texts of this repetition of this field.
+#[inline(always)]
+fn is_copied(field: usize, rep: usize) -> bool
+    ensures { result ≡ is_copied field rep }
+{
+    rep == 1 && (field == 3 || field == 4 || field == 5 || field == 6 || field == 11)
+}
+
+/// Keeps a text of the header where an answer copies it. Its bytes go behind the others.
+#[inline(always)]
+fn keep_text(
+    found: &mut Vec<HeaderText>,
+    bytes: &mut Vec<u8>,
+    place: Place,
+    text: &[u8],
+) -> Result<(), AllocError>
+    ensures { (es : List Entry) → Copies bytes.old.items found.old.items es
+        → OnOk result (Copies bytes.new.items found.new.items (es ++ (numbers place, text.now) ∷ [])) }
+{
+    if !is_copied(place.field, place.rep) {
+        return Ok(());
+    }
+    let span = push_text(bytes, text)?;
+    found.push(HeaderText { place, span })?;
+    Ok(())
+}
+
+/// The texts of a segment that an answer copies, each with its place. Their bytes go behind the others.
 fn texts_of(
     alloc: Global,
     segment: &Segment<'_>,
     bytes: &mut Vec<u8>,
 ) -> Result<Vec<HeaderText>, AllocError>
-    ensures { IfOk result (λ found. (more : List ℕ) → entries (bytes.new.items ++ more) found.items ≡ texts.entries segment.now.at) }
+    ensures { IfOk result (λ found. Copies bytes.new.items found.items (texts.entries segment.now.at)) }
 {
     let mut found = Vec::with_capacity(alloc, segment.value_count())?;
     for i in 0..segment.value_count() {
         let value = segment.value(i);
-        let span = push_text(bytes, value.text)?;
-        found.push(HeaderText {
-            place: value.place,
-            span,
-        })?;
+        keep_text(&mut found, bytes, value.place, value.text)?;
     }
     Ok(found)
 }

@@ -8,8 +8,24 @@ use Rattle.std.proofs.lemmas.List.Elements.{All-from_get_or}
 use Rattle.std.proofs.lemmas.List.Sums.{prefix_len-le-length, position_or_len_is, fails_before_first, passes_at_first}
 use denote.Ref.{Bor}
 use Rattle.gw_er7.specs.declared.delimiters.Delimiters.{Delimiters}
-use Rattle.gw_er7.specs.own.Separators.{separators, is_separator, is_mark, IsClear, IsLastValue, IsNextValue, IsCut}
+use Rattle.gw_er7.specs.own.Separators.{separators, is_separator, is_mark, IsPlainTo, IsClear, IsLastValue, IsNextValue, IsCut}
 use Rattle.gw_er7.proofs.Heads.{stops}
+
+module _ (d : Delimiters) (bytes : List ℕ) (n : ℕ) (plain : IsPlainTo d bytes n) where
+  pub plain_more : is_mark d (get_or bytes n 0) ≡ false → IsPlainTo d bytes (n + 1)
+  plain_more here i lt = elim (cases_lt i n) as (λ _. is_mark d (get_or bytes i 0) ≡ false) [
+    | inl l ↦ plain i l
+    | inr ge ↦ (let same : n ≡ i = omega (arith, lt, ge) in subst (λ k. is_mark d (get_or bytes k 0) ≡ false) same here)
+  ]
+
+  pub plain_to : (m : ℕ) → m ≡ n + 1 → is_mark d (get_or bytes n 0) ≡ false → IsPlainTo d bytes m
+  plain_to m e here = subst (λ (k : ℕ). IsPlainTo d bytes k) (sym e) (plain_more here)
+
+  pub marked_here : n < length bytes → is_mark d (get_or bytes n 0) ≡ true → n ≡ position_or_len (is_mark d) bytes
+  marked_here lt here = sym (position_or_len_is (is_mark d) bytes n 0 (omega (arith, lt)) plain (λ _. here))
+
+  pub plain_all : n ≤ length bytes → length bytes ≤ n → n ≡ position_or_len (is_mark d) bytes
+  plain_all le ge = sym (position_or_len_is (is_mark d) bytes n 0 le plain (λ lt. absurd (omega (arith, ge, lt))))
 
 module _ (d : Delimiters) (bytes : List ℕ) (k : ℕ) (first : k ≡ position_or_len (is_mark d) bytes) where
   before : (i : ℕ) → i < k → (stops d (get_or bytes i 0) ≡ false) × (is_separator (separators d) (get_or bytes i 0) ≡ false)

@@ -8,6 +8,14 @@ use Rattle.memchr.specs.Find.{IsFirstByte, is_byte}
 use Rattle.gw_er7.specs.declared.delimiters.Delimiters.{Delimiters}
 use Rattle.gw_er7.specs.Text.{canon, canon_from, opens, meaning, plainly, body_of, is_body}
 
+-- a byte that stands first is found there
+pub first_at_once : (e : ℕ) (bytes : List ℕ) → 0 < length bytes → get_or bytes 0 0 ≡ e → IsFirstByte (is_byte e) bytes (Some 0)
+first_at_once e bytes some is = (record { low = omega arith; high = some; before = λ k low lt p. omega (arith, lt) }, eq-eqb _ _ is)
+
+-- where no byte stands, none is found
+pub first_of_none : (e : ℕ) (bytes : List ℕ) → length bytes ≡ 0 → IsFirstByte (is_byte e) bytes None
+first_of_none e bytes none = λ k low lt p. omega (arith, lt, none)
+
 -- what a search for the escape character finds
 pub body_found : (d : Delimiters) (after : List ℕ) (k : ℕ) → IsFirstByte (is_byte d.escape) after (Some k) → body_of d after ≡ take k after
 body_found d after k h = ap (λ (n : ℕ). take n after)

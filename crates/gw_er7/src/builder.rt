@@ -88,6 +88,8 @@ impl Builder {
         let Builder { starts, texts } = self;
         let mut texts = texts;
         close(&starts, &mut texts);
-        Message::of(starts, texts)
+        let mut message = Message::of(starts, texts);
+        message.fit();
+        message
     }
 }

@@ -1,6 +1,7 @@
 //! The canonical text of a raw value (HL7 v2.5.1 chapter 2, 2.7 "Use of escape sequences in text fields").
 ghost use Rattle.std.specs.Prelude.{◌≡◌, ◌≤◌, ◌+◌, ◌++◌, ◌==◌, ◌||◌, length, take, drop, position, IfOk, IfNone, IfSome, OnOk, false, not};
 ghost use Rattle.std.specs.List.{list_all, position_or_len};
+ghost use Rattle.memchr.specs.Find.{IsFirstByte, is_byte};
 ghost use Rattle.gw_er7.specs.Text.{canon, escaped, plainly, meaning, delimiter_of, is_body, is_special, opens, IsBodyAt};
 
 use crate::delimiters::Delimiters;
@@ -25,6 +26,20 @@ fn is_body(body: &[u8]) -> bool
     !body.is_empty() && has_no_special(body)
 }
 
+// Where the first escape character stands. Behind many lone ones stands another or nothing, so no search is called for that.
+#[tactic(auto, using(crate::proofs::Sequences::first_at_once, crate::proofs::Sequences::first_of_none))]
+fn first_escape(escape: u8, bytes: &[u8]) -> Option<usize>
+    ensures { IsFirstByte (is_byte escape) bytes.now result }
+{
+    if bytes.len() == 0 {
+        return None;
+    }
+    if bytes[0] == escape {
+        return Some(0);
+    }
+    memchr(escape, bytes)
+}
+
 /// The body of the sequence that begins with this byte, if one does.
 fn body_at(delimiters: Delimiters, first: u8, after: &[u8]) -> Option<&[u8]>
     ensures none { IfNone result (opens delimiters first after.now ≡ false) }
@@ -33,7 +48,7 @@ fn body_at(delimiters: Delimiters, first: u8, after: &[u8]) -> Option<&[u8]>
     if first != delimiters.escape {
         return None;
     }
-    let end = memchr(delimiters.escape, after)?;
+    let end = first_escape(delimiters.escape, after)?;
     let body = &after[..end];
     if is_body(body) { Some(body) } else { None }
 }

@@ -4,7 +4,7 @@ ghost use Rattle.std.specs.List.{position_or_len};
 ghost use Rattle.gw_er7.specs.Message.{numbers};
 ghost use Rattle.gw_er7.specs.Entries.{fields};
 ghost use Rattle.gw_er7.specs.Text.{is_special};
-ghost use Rattle.gw_er7.specs.own.Separators.{separators, is_separator, is_mark, next_numbers, value_at, bytes_of, held_in, taken_by, Keeps, IsCut, Lies};
+ghost use Rattle.gw_er7.specs.own.Separators.{separators, is_separator, is_mark, next_numbers, value_at, bytes_of, held_in, taken_by, Keeps, IsPlainTo, IsCut, Lies};
 ghost use Rattle.gw_er7.specs.View.{AreInside};
 
 use crate::classes::{ByteClasses, Class};
@@ -46,18 +46,48 @@ fn is_mark(classes: &ByteClasses, byte: u8) -> bool
     !matches!(classes.class(byte), Class::Text)
 }
 
-/// Where a value ends, or the first byte of it that doesn't stand for itself.
-fn first_mark(classes: &ByteClasses, bytes: &[u8]) -> Option<usize>
-    ensures { result ≡ position (λ b. is_mark classes.now b) bytes.now }
+/// How many bytes are looked at before it is tested again how many are left.
+const STEP: usize = 4;
+
+// How many bytes stand before the first mark, where none stands among the first `from`.
+#[inline(always)]
+fn plain_from(classes: &ByteClasses, bytes: &[u8], from: usize) -> usize
+    requires within { from ≤ length bytes.now }
+    requires before { IsPlainTo classes.now bytes.now from }
+    ensures { result ≡ position_or_len (λ b. is_mark classes.now b) bytes.now }
 {
-    bytes.iter().position(|byte| is_mark(classes, *byte))
+    let mut at = from;
+    while at < bytes.len() {
+        if is_mark(classes, bytes[at]) {
+            return at;
+        }
+        at += 1;
+    }
+    at
 }
 
-/// How many bytes stand before that one, or how many there are where there is none.
+/// How many bytes stand before where a value ends, or its first byte that doesn't stand for itself, or how many there are where there is none.
+#[inline(always)]
 fn plain_len(classes: &ByteClasses, bytes: &[u8]) -> usize
     ensures { result ≡ position_or_len (λ b. is_mark classes.now b) bytes.now }
 {
-    first_mark(classes, bytes).unwrap_or(bytes.len())
+    let mut at = 0;
+    while bytes.len() - at >= STEP {
+        if is_mark(classes, bytes[at]) {
+            return at;
+        }
+        if is_mark(classes, bytes[at + 1]) {
+            return at + 1;
+        }
+        if is_mark(classes, bytes[at + 2]) {
+            return at + 2;
+        }
+        if is_mark(classes, bytes[at + 3]) {
+            return at + 3;
+        }
+        at += STEP;
+    }
+    plain_from(classes, bytes, at)
 }
 
 /// A raw value, the first bytes of which stand for themselves, and the separator and the bytes behind it where there is one.
@@ -209,7 +239,19 @@ fn push_value(
         return Ok(());
     }
     if plain < raw.len() {
-        return push_other(taken, classes, place, raw, plain);
+        let Place {
+            field,
+            rep,
+            comp,
+            sub,
+        } = place;
+        let there = Place {
+            field,
+            rep,
+            comp,
+            sub,
+        };
+        return push_other(taken, classes, there, raw, plain);
     }
     let span = TextSpan {
         place,

@@ -54,6 +54,7 @@ fn write_level(
 }
 
 /// Writes the separators that lead from one place to another.
+#[inline(always)]
 fn write_gaps(out: &mut Vec<u8>, from: Place, to: Place) -> Result<(), AllocError>
     ensures { OnOk result (out.new.items ≡ out.old.items ++ gaps levels (numbers from) (numbers to)) }
 {

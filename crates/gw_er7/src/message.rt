@@ -43,16 +43,20 @@ impl Message {
     ghost use Rattle.gw_er7.specs.Message.{IsMessage};
     ghost use Rattle.gw_er7.specs.View.{lying, IsLying};
 
-    /// The message of the segments that begin so among these texts, in memory that fits it.
+    /// The message of the segments that begin so among these texts.
     pub(crate) fn of(starts: Vec<SegmentHead>, texts: Texts) -> Message
         requires { IsLying starts.items texts }
         ensures { result ≡ lying starts.items texts }
     {
-        let mut starts = starts;
-        let mut texts = texts;
-        starts.shrink_to_fit();
-        texts.fit();
         Message { starts, texts }
+    }
+
+    /// Gives back the memory that the message doesn't need: a message that was read has some. It takes no memory.
+    pub fn fit(&mut self)
+        ensures { self.new ≡ self.old }
+    {
+        self.starts.shrink_to_fit();
+        self.texts.fit();
     }
 
     /// How many segments the message has. It takes no memory.

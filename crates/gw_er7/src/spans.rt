@@ -1,6 +1,6 @@
 //! Where the texts of a message lie among its bytes.
 //!
-//! A text takes 8 bytes where the numbers of places fit 8 bits and the others 16, 12 where they fit 8 and 32, 24 where all fit 32, else 48.
+//! A text takes 12 bytes where the numbers of places fit 8 bits and the others 32, 24 where all fit 32, else 48.
 ghost use Rattle.std.specs.Prelude.{◌≡◌, ◌↔◌, ◌++◌, ◌≤◌, length, map, IsTrue, OnOk};
 ghost use Rattle.std.specs.List.{AllZip};
 ghost use Rattle.std.specs.List.Sorted.{IsPermutation, IsSortedBy};
@@ -78,29 +78,6 @@ impl Number for u8 {
     }
 }
 
-impl Number for u16 {
-    ghost use Rattle.std.specs.Prelude.{◌-◌, ◌^◌};
-
-    ghost said = { λ number. number };
-
-    ghost most = { 2 ^ 16 - 1 };
-
-    #[inline(always)]
-    fn fits(number: usize) -> bool {
-        number <= u16::MAX as usize
-    }
-
-    #[inline(always)]
-    fn narrowed(number: usize) -> u16 {
-        number as u16
-    }
-
-    #[inline(always)]
-    fn widened(self) -> usize {
-        self as usize
-    }
-}
-
 impl Number for u32 {
     ghost use Rattle.std.specs.Prelude.{◌-◌, ◌^◌};
 
@@ -163,11 +140,11 @@ impl<P: Number, L: Number> Width for NarrowSpan<P, L> {
     #[inline(always)]
     fn fits(span: TextSpan) -> bool {
         P::fits(span.place.field)
-            && P::fits(span.place.rep)
-            && P::fits(span.place.comp)
-            && P::fits(span.place.sub)
-            && L::fits(span.from)
-            && L::fits(span.len)
+            & P::fits(span.place.rep)
+            & P::fits(span.place.comp)
+            & P::fits(span.place.sub)
+            & L::fits(span.from)
+            & L::fits(span.len)
     }
 
     #[inline(always)]
@@ -343,6 +320,9 @@ impl Store for Vec<TextSpan> {
         self.len()
     }
 
+    // Few messages have spans so wide, so walks over the others stay short.
+    #[cold]
+    #[inline(never)]
     fn at(&self, i: usize) -> TextSpan {
         self[i]
     }
@@ -508,8 +488,8 @@ impl<N: Width, L: Store> Store for Spans<N, L> {
     }
 }
 
-/// The spans of a message: all in 8 bytes, in 12, in 24, or in 48.
+/// The spans of a message: all in 12 bytes, in 24, or in 48.
 pub(crate) type MessageSpans = Spans<
-    NarrowSpan<u8, u16>,
-    Spans<NarrowSpan<u8, u32>, Spans<NarrowSpan<u32, u32>, Vec<TextSpan>>>,
+    NarrowSpan<u8, u32>,
+    Spans<NarrowSpan<u32, u32>, Vec<TextSpan>>,
 >;

@@ -71,6 +71,7 @@ pub(crate) fn is_long(count: Count, len: Option<u32>, text: &[u8]) -> bool
     }
 }
 
+#[inline(always)]
 pub(crate) fn is_unlisted(profile: &Profile, table: &Option<Vec<u8>>, text: &[u8]) -> bool
     ensures { result ≡ is_unlisted profile.now.tables (items_of table.now) text.now }
 {

@@ -171,8 +171,10 @@ pub fn validate(alloc: Global, profile: Arc<Profile>, message: Message) -> Resul
     match judge(alloc, &profile, &message) {
         Err(_) => Err(message),
         Ok(Judged::Breaks(breach)) => Ok(Verdict::Breaks(breach, message)),
-        Ok(Judged::Fits(taken, found)) => Ok(Verdict::Fits(Tree::of(
-            profile, message, taken, found,
-        ))),
+        Ok(Judged::Fits(taken, found)) => {
+            let mut message = message;
+            message.fit();
+            Ok(Verdict::Fits(Tree::of(profile, message, taken, found)))
+        }
     }
 }

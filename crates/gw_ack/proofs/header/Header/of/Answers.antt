@@ -1,4 +1,4 @@
-use Rattle.std.proofs.Common.{◌∙◌, sym, subst}
+use Rattle.std.proofs.Common.{sym, subst}
 use Rattle.gw_ack.specs.Headers.{IsHeaderValue}
 use Rattle.gw_ack.proofs.Lawful.{header_is_lawful}
 use Rattle.gw_ack.proofs.Tables.{seen_is}
