@@ -171,6 +171,7 @@ impl Bench {
             ("small", adt),
             ("results_5000", oru),
             ("megabyte", oru),
+            ("document", oru),
             ("sixty_kilobytes", oru),
             ("unreadable", oru),
             ("tiny_blocks", oru),

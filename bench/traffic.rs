@@ -345,6 +345,18 @@ fn filled(dice: &mut Dice, begin: &str, piece: &str, longest: usize) -> String {
     text
 }
 
+/// A report with a document in it, encoded in base64 (HL7 v2.5.1 chapter 2A, "ED"), that is as long as the content may be.
+fn document(dice: &mut Dice, longest: usize) -> String {
+    const DIGITS: &[u8; 64] = b"ABCDEFGHIJKLMNOPQRSTUVWXYZabcdefghijklmnopqrstuvwxyz0123456789+/";
+    let mut text = report(dice, 1, 1, 3);
+    text += "OBX|4|ED|PDF^Report^L||^application^pdf^Base64^JVBERi0x";
+    let tail = "||||||F\r";
+    while text.len() + tail.len() < longest {
+        text.push(char::from(DIGITS[dice.below(64) as usize]));
+    }
+    text + tail
+}
+
 fn save(folder: &Path, name: &str, contents: &[String]) -> io::Result<()> {
     let mut stream = Vec::new();
     for content in contents {
@@ -402,5 +414,7 @@ fn main() -> io::Result<()> {
     let small: Vec<String> = (0..48_000).map(|i| small_admission(dice, i)).collect();
     save(folder, "small", &small)?;
     save(folder, "unreadable", &vec!["A".repeat(1_500); 16_000])?;
-    save(folder, "tiny_blocks", &vec!["A".to_string(); 200_000])
+    save(folder, "tiny_blocks", &vec!["A".to_string(); 200_000])?;
+    let document = document(dice, longest);
+    save_copies(folder, "document", document, 24_000_000)
 }

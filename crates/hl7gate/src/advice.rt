@@ -2,8 +2,8 @@
 use crate::elements::{Named, print_name};
 use crate::maps::ProfilePair;
 use crate::report::say;
-use crate::subjects::{Explanation, Searches};
-use gw_check::{SourceUse, site_at};
+use crate::subjects::{Explanation, Searches, first_absent};
+use gw_check::{Site, SourceUse, site_at};
 use gw_maplang::Map;
 use gw_resolve::Failure;
 use std::alloc::{AllocError, Global};
@@ -198,9 +198,20 @@ impl<'a> Refusal<'a> {
         any
     }
 
+    /// What makes the part that a failure speaks of: its line or, of a segment or group that may be absent, what lets it be absent.
+    fn site_of(&self, failure: Failure) -> Option<&'a Site> {
+        let sites = self.refused.used.sites.as_slice();
+        let made = site_at(sites, failure.mark.line)?;
+        if failure.rule == 5 && failure.mark.field == 0 {
+            Some(first_absent(&self.sides.source, sites, made))
+        } else {
+            Some(made)
+        }
+    }
+
     /// Reports what the line of a failure makes, and of what.
     fn print_made<E: Write>(&self, errors: &mut E, failure: Failure, searches: &mut Searches<'a>) {
-        if let Some(site) = site_at(&self.refused.used.sites, failure.mark.line) {
+        if let Some(site) = self.site_of(failure) {
             let explanation = Explanation {
                 sides: self.sides,
                 map: &self.refused.map,

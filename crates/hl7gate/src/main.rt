@@ -7,6 +7,7 @@ mod above;
 mod advice;
 mod arguments;
 mod breaches;
+mod chosen;
 mod contents;
 mod doors;
 mod elements;

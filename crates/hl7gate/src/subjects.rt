@@ -1,4 +1,5 @@
 //! What a failure of a map speaks of, in the field's words: the part of the target that fails, what the source has for it, and what prevents them.
+use crate::chosen::condition_at;
 use crate::elements::{Named, node_at, print_element, print_interval, print_name, print_profile};
 use crate::maps::ProfilePair;
 use crate::report::say;
@@ -113,6 +114,37 @@ fn absent_on_the_way<'a>(profile: &Profile, from: &'a ElementPath) -> Option<&'a
     None
 }
 
+/// Whether this is what the `where` of an item reads: an item reads no other field.
+fn is_condition(site: &Site) -> bool {
+    match read_of(site) {
+        None => false,
+        Some(from) => site.target.field == 0 && from.field > 0,
+    }
+}
+
+/// Whether a segment or group that a line makes may be absent by what it reads, or by its `where`.
+fn may_give_none(source: &Profile, site: &Site) -> bool {
+    match read_of(site) {
+        None => false,
+        Some(from) => is_condition(site) || absent_on_the_way(source, from).is_some(),
+    }
+}
+
+/// Of all that makes the segment or group that a line makes, from that line on, the first that may be absent; the line itself where none may.
+pub(crate) fn first_absent<'a>(source: &Profile, sites: &'a [Site], made: &'a Site) -> &'a Site {
+    let target = made.target.at.as_slice();
+    for site in sites {
+        if site.line >= made.line
+            && site.target.field == 0
+            && site.target.at.as_slice() == target
+            && may_give_none(source, site)
+        {
+            return site;
+        }
+    }
+    made
+}
+
 /// Reports an element of a profile; of a forbidden component the whole.
 fn print_part<E: Write>(errors: &mut E, profile: &Profile, named: Named<'_>) {
     if is_comp_of(profile, named, Usage::X) {
@@ -132,16 +164,39 @@ fn print_read<E: Write>(errors: &mut E, profile: &Profile, named: Named<'_>) {
 }
 
 impl Explanation<'_> {
-    /// Reports why what is read may be absent: by a node on the way to it, where one may be, or by itself.
-    fn print_absent<E: Write>(&self, errors: &mut E, from: Named<'_>) {
+    /// What a `where` at the line asks for a value, where the whole of what it makes depends on that.
+    fn asked_by_where(&self, part: FailureSite) -> Option<Named<'_>> {
+        let path = read_of(self.site)?;
+        let (comp, sub) = if is_condition(self.site) {
+            (path.comp, path.sub)
+        } else if part.field > 0 && part.comp == 0 {
+            let place = condition_at(self.map.items(), self.site.line)?.place;
+            (place.comp, place.sub)
+        } else {
+            return None;
+        };
+        Some(Named {
+            comp,
+            sub,
+            ..Named::whole(&path.at, path.field)
+        })
+    }
+
+    /// Reports why what is read may be absent: by `where`, by a node on the way to it, or by itself.
+    fn print_absent<E: Write>(&self, errors: &mut E, mark: FailureSite, from: Named<'_>) {
         let source = &self.sides.source;
-        if let Some(path) = read_of(self.site)
+        if let Some(asked) = self.asked_by_where(mark) {
+            say(errors, b"only some values of ");
+            print_name(errors, source, asked);
+            print_profile(errors, source);
+            say(errors, b" give it");
+        } else if let Some(path) = read_of(self.site)
             && let Some(at) = absent_on_the_way(source, path)
         {
             print_element(errors, source, Named::whole(at, 0));
-            return;
+        } else {
+            print_read(errors, source, from);
         }
-        print_read(errors, source, from);
     }
 
     /// Reports what the source has for a part of the target of which rule 5 or 11 fails.
@@ -151,7 +206,7 @@ impl Explanation<'_> {
         if is_copy(self.site) && mark.comp > 0 {
             print_part(errors, source, from);
         } else if rule == 5 {
-            self.print_absent(errors, from);
+            self.print_absent(errors, mark, from);
         } else {
             print_read(errors, source, from);
         }
