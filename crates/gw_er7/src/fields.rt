@@ -1,6 +1,6 @@
 //! The texts of a segment's fields.
 ghost use Rattle.std.specs.Prelude.{◌≡◌, ◌==◌, ◌||◌, ◌+◌, ◌<◌, ◌≤◌, ◌^◌, ◌++◌, ◌-◌, true, length, position, OnOk, IfOk};
-ghost use Rattle.std.specs.List.{position_or_len};
+ghost use Rattle.std.specs.List.{list_any, position_or_len};
 ghost use Rattle.gw_er7.specs.Message.{numbers};
 ghost use Rattle.gw_er7.specs.Entries.{fields};
 ghost use Rattle.gw_er7.specs.Text.{is_special};
@@ -8,7 +8,8 @@ ghost use Rattle.gw_er7.specs.own.Separators.{separators, is_separator, is_mark,
 ghost use Rattle.gw_er7.specs.View.{AreInside};
 
 use crate::classes::{ByteClasses, Class};
-use crate::escapes::push_canonical;
+use crate::delimiters::Delimiters;
+use crate::escapes::{is_special, push_canonical};
 use crate::place::Place;
 use crate::spans::{MessageSpans, Store, TextSpan};
 use std::alloc::{AllocError, Global};
@@ -90,6 +91,75 @@ fn plain_len(classes: &ByteClasses, bytes: &[u8]) -> usize
     plain_from(classes, bytes, at)
 }
 
+/// How many bytes are tested together, where a segment is long.
+const CHUNK: usize = 32;
+
+// As `is_mark`, without the table: many bytes are compared at a time.
+fn is_mark_of(delimiters: Delimiters, byte: u8) -> bool
+    ensures { result ≡ is_mark delimiters byte }
+{
+    let ends = (byte == delimiters.field)
+        | (byte == delimiters.repetition)
+        | (byte == delimiters.component)
+        | (byte == delimiters.subcomponent);
+    is_special(byte) | (byte == delimiters.escape) | ends
+}
+
+// Whether some byte is a mark. It looks at all of them, so that many are tested at a time.
+fn has_mark(delimiters: Delimiters, bytes: &[u8]) -> bool
+    ensures { result ≡ list_any (λ b. is_mark delimiters b) bytes.now }
+{
+    let mut found = false;
+    for byte in bytes {
+        found = found | is_mark_of(delimiters, *byte);
+    }
+    found
+}
+
+// As `plain_from`, of a value that may be a document.
+fn plain_behind(classes: &ByteClasses, bytes: &[u8], from: usize) -> usize
+    requires within { from ≤ length bytes.now }
+    requires before { IsPlainTo classes.now bytes.now from }
+    ensures { result ≡ position_or_len (λ b. is_mark classes.now b) bytes.now }
+{
+    let delimiters = classes.delimiters();
+    let mut at = from;
+    while bytes.len() - at >= CHUNK {
+        if has_mark(delimiters, &bytes[at..at + CHUNK]) {
+            return plain_from(classes, bytes, at);
+        }
+        at += CHUNK;
+    }
+    plain_from(classes, bytes, at)
+}
+
+/// As `plain_len`, of a value in a long segment.
+#[cold]
+#[inline(never)]
+fn plain_far(classes: &ByteClasses, bytes: &[u8]) -> usize
+    ensures { result ≡ position_or_len (λ b. is_mark classes.now b) bytes.now }
+{
+    if bytes.len() < CHUNK {
+        return plain_len(classes, bytes);
+    }
+    let near = plain_len(classes, &bytes[..CHUNK]);
+    if near < CHUNK {
+        return near;
+    }
+    plain_behind(classes, bytes, CHUNK)
+}
+
+/// As `plain_len`, of a value in a segment that is long or isn't.
+#[inline(always)]
+fn plain_in(classes: &ByteClasses, bytes: &[u8], is_long: bool) -> usize
+    ensures { result ≡ position_or_len (λ b. is_mark classes.now b) bytes.now }
+{
+    if is_long {
+        return plain_far(classes, bytes);
+    }
+    plain_len(classes, bytes)
+}
+
 /// A raw value, the first bytes of which stand for themselves, and the separator and the bytes behind it where there is one.
 #[derive(Clone, Copy)]
 struct Cut<'a> {
@@ -99,11 +169,12 @@ struct Cut<'a> {
 }
 
 /// The value with which bytes begin: most are looked through once, up to the separator behind them.
-fn cut_value<'a>(classes: &ByteClasses, bytes: &'a [u8]) -> Cut<'a>
+#[inline(always)]
+fn cut_value<'a>(classes: &ByteClasses, bytes: &'a [u8], is_long: bool) -> Cut<'a>
     ensures cut { IsCut (separators classes.now) bytes.now result.raw.now result.behind }
     ensures plain { result.plain ≡ position_or_len (λ b. is_special b || b == classes.now.escape) result.raw.now }
 {
-    let plain = plain_len(classes, bytes);
+    let plain = plain_in(classes, bytes, is_long);
     if plain >= bytes.len() {
         return Cut {
             raw: bytes,
@@ -262,13 +333,15 @@ fn push_value(
     Ok(())
 }
 
-/// Takes in the fields of a segment, which lie among the message bytes; the first of them has this number.
-pub(crate) fn take_fields(
+/// Takes in the fields of a segment that is long or isn't.
+#[inline(always)]
+fn take_values(
     taken: &mut SegmentTexts<'_>,
     classes: &ByteClasses,
     first: usize,
     at: usize,
     bytes: &[u8],
+    is_long: bool,
 ) -> Result<(), AllocError>
     requires first { first ≤ 3 }
     requires inside { AreInside (bytes_of taken.old) taken.old.spans }
@@ -287,7 +360,7 @@ pub(crate) fn take_fields(
     let mut here = at;
     let mut rest = bytes;
     loop {
-        let cut = cut_value(classes, rest);
+        let cut = cut_value(classes, rest, is_long);
         push_value(taken, classes, place, here, cut.raw, cut.plain)?;
         let Some((separator, later)) = cut.behind else {
             return Ok(());
@@ -296,4 +369,29 @@ pub(crate) fn take_fields(
         here += cut.raw.len() + 1;
         rest = later;
     }
+}
+
+/// A segment with more bytes is long: a value in it may be a document.
+const LONG: usize = 4096;
+
+/// Takes in the fields of a segment, which lie among the message bytes; the first of them has this number.
+pub(crate) fn take_fields(
+    taken: &mut SegmentTexts<'_>,
+    classes: &ByteClasses,
+    first: usize,
+    at: usize,
+    bytes: &[u8],
+) -> Result<(), AllocError>
+    requires first { first ≤ 3 }
+    requires inside { AreInside (bytes_of taken.old) taken.old.spans }
+    requires lies { Lies taken.old.content.now at bytes.now }
+    ensures inside { OnOk result (AreInside (bytes_of taken.new) taken.new.spans) }
+    ensures content { OnOk result (taken.new.content.now ≡ taken.old.content.now) }
+    ensures kept { OnOk result (Keeps taken.old taken.new) }
+    ensures entries { OnOk result (taken_by taken.new ≡ taken_by taken.old ++ fields classes.now first bytes.now) }
+{
+    if bytes.len() > LONG {
+        return take_values(taken, classes, first, at, bytes, true);
+    }
+    take_values(taken, classes, first, at, bytes, false)
 }

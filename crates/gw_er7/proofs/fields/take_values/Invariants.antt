@@ -4,7 +4,7 @@ use Rattle.gw_er7.specs.Entries.{fields}
 use Rattle.gw_er7.specs.own.Separators.{separators, bytes_of, taken_by, Keeps, Lies}
 use Rattle.gw_er7.specs.View.{AreInside}
 use Rattle.gw_er7.proofs.Separated.{rest}
-use Rattle.gw_er7.proofs.fields.take_fields.Given as goal
+use Rattle.gw_er7.proofs.fields.take_values.Given as goal
 
 abbrev pub invariant-loop-separator : goal.invariant-loop-separator
 invariant-loop-separator l = record {

@@ -6,7 +6,7 @@ use Rattle.gw_er7.specs.own.Separators.{held_in, taken_by, separators, Lies}
 use Rattle.gw_er7.proofs.Lies.{lies_value, lies_behind}
 use Rattle.gw_er7.proofs.Lying.{keeps_on}
 use Rattle.gw_er7.proofs.Separated.{value_last, value_taken, later_less, rest_first}
-use Rattle.gw_er7.proofs.fields.take_fields.Goals as goal
+use Rattle.gw_er7.proofs.fields.take_values.Goals as goal
 
 pub returns-in_default-clause-kept : goal.returns-in_default-clause-kept
 returns-in_default-clause-kept c = keeps_on (held_in c.args.taken.now) (held_in c.loop-separator.taken) (held_in c.push_value.new.taken) c.loop-separator.invariant.kept c.in_ok-push_value.ensures.kept
