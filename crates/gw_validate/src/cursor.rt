@@ -127,6 +127,17 @@ pub(crate) fn next_rep(
     Some(value.place.rep)
 }
 
+/// Whether a field is present, by its first repetition that is.
+#[inline(always)]
+pub(crate) fn is_there(segment: &Segment<'_>, field: usize, first: Option<usize>) -> bool
+    requires { MatchOption first (IsNoRep segment.now.at field 0) (IsNextRep segment.now.at field 0) }
+    ensures yes { result ≡ true → FieldAt segment.now.at field }
+    ensures no { result ≡ false → FieldAt segment.now.at field → ⊥ }
+    ensures some { (rep : ℕ) → RepAt segment.now.at field rep → 0 < rep }
+{
+    first.is_some()
+}
+
 /// Whether a field is present. It is looked for from the number `near` on, which rises to its first text.
 #[inline(always)]
 pub(crate) fn has_field(segment: &Segment<'_>, near: &mut usize, field: usize) -> bool
@@ -136,5 +147,6 @@ pub(crate) fn has_field(segment: &Segment<'_>, near: &mut usize, field: usize) -
     ensures near { IsBefore (field ∷ 1 ∷ 0 ∷ 0 ∷ []) (texts.entries segment.now.at) near.new }
     ensures some { (rep : ℕ) → RepAt segment.now.at field rep → 0 < rep }
 {
-    next_rep(segment, near, field, 0).is_some()
+    let first = next_rep(segment, near, field, 0);
+    is_there(segment, field, first)
 }

@@ -8,10 +8,10 @@ ghost use Rattle.gw_validate.specs.declared.breach.Kind.TheVariants.{MissingValu
 ghost use Rattle.gw_validate.specs.Kinds.{number_of};
 ghost use Rattle.gw_validate.specs.Breaches.{is_required, is_forbidden, is_long, is_unlisted, is_null, SubBreach, CompBreach, RepBreach, RepsBreach, FieldBreach, SegmentBreach, Counted};
 ghost use Rattle.gw_validate.specs.own.Least.{Least, CompRises, FieldRises, ShapeRises, Rises, comp_key, rep_key, field_key, segment_key, is_full, SubsBreach, CompsBreach};
-ghost use Rattle.gw_validate.specs.own.Walk.{IsBefore, IsValueAt, IsCount, IsShort};
+ghost use Rattle.gw_validate.specs.own.Walk.{IsBefore, IsValueAt, IsNextRep, IsNoRep, IsCount, IsShort};
 
 use crate::breach::Kind;
-use crate::cursor::{first_from, has_field, next_rep, text_from};
+use crate::cursor::{first_from, is_there, next_rep, text_from};
 use gw_er7::{Place, Segment, Value};
 use gw_profile::{CompShape, Count, FieldShape, Profile, SubShape, Usage, measure};
 
@@ -294,29 +294,34 @@ fn rep_breach(
     )
 }
 
-// The least breach in the repetitions of a field.
+// The least breach in the repetitions of a field, of which the first that is present is known.
 fn reps_breach(
     profile: &Profile,
     segment: &Segment<'_>,
     near: &mut usize,
     shape: &FieldShape,
+    first: Option<usize>,
 ) -> Option<Spot>
     requires rises { FieldRises (field_value shape.now) }
     requires some { (rep : ℕ) → RepAt segment.now.at shape.now.number rep → 0 < rep }
     requires usage { is_forbidden shape.now.usage ≡ false }
-    requires near { IsBefore (shape.now.number ∷ 1 ∷ 0 ∷ 0 ∷ []) (texts.entries segment.now.at) near.old }
+    requires next { MatchOption first (IsNoRep segment.now.at shape.now.number 0) (IsNextRep segment.now.at shape.now.number 0) }
+    requires here { MatchOption first (IsBefore ((shape.now.number + 1) ∷ 0 ∷ 0 ∷ 0 ∷ []) (texts.entries segment.now.at) near.old)
+        (λ rep. IsBefore (shape.now.number ∷ rep ∷ 0 ∷ 0 ∷ []) (texts.entries segment.now.at) near.old) }
     ensures least { Least (RepsBreach (profile_value profile.now) segment.now.at (field_value shape.now)) (option_map field_key result) }
     ensures near { IfNone result (IsBefore ((shape.now.number + 1) ∷ 0 ∷ 0 ∷ 0 ∷ []) (texts.entries segment.now.at) near.new) }
 {
     let field = shape.number as usize;
     let mut before = 0;
     let mut rep = 0;
-    while let Some(next) = next_rep(segment, near, field, rep) {
+    let mut found = first;
+    while let Some(next) = found {
         rep = next;
         if let Some(breach) = rep_breach(profile, segment, near, shape, rep, before) {
             return Some(Spot { rep, ..breach });
         }
         before += 1;
+        found = next_rep(segment, near, field, rep);
     }
     None
 }
@@ -371,7 +376,9 @@ fn field_breach(
     ensures least { Least (FieldBreach (profile_value profile.now) segment.now.at (field_value shape.now)) (option_map field_key result) }
     ensures near { IfNone result (IsBefore ((shape.now.number + 1) ∷ 0 ∷ 0 ∷ 0 ∷ []) (texts.entries segment.now.at) near.new) }
 {
-    let present = has_field(segment, near, shape.number as usize);
+    let field = shape.number as usize;
+    let first = next_rep(segment, near, field, 0);
+    let present = is_there(segment, field, first);
     if is_forbidden(shape.usage) {
         if !present {
             return None;
@@ -381,7 +388,7 @@ fn field_breach(
     if comes_short(segment, *near, shape, present) {
         return Some(of_kind(Kind::MissingValue));
     }
-    reps_breach(profile, segment, near, shape)
+    reps_breach(profile, segment, near, shape, first)
 }
 
 /// The least breach of a segment's shape.

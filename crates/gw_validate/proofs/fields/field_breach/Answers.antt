@@ -9,17 +9,17 @@ use Rattle.gw_validate.proofs.Walks.{field_end}
 use Rattle.gw_validate.proofs.fields.field_breach.Goals as goal
 
 pub returns-then-not-present-clause-near : goal.returns-then-not-present-clause-near
-returns-then-not-present-clause-near c = field_end c.args.shape.now.number 1 0 0 (texts.entries c.args.segment.now.at) c.has_field-present.new.near c.has_field-present.ensures.near
+returns-then-not-present-clause-near c = field_end c.args.shape.now.number 1 0 0 (texts.entries c.args.segment.now.at) c.next_rep-first.new.near c.next_rep-first.ensures.near
 
 pub returns-then-is_forbidden-clause-least : goal.returns-then-is_forbidden-clause-least
 returns-then-is_forbidden-clause-least c =
     subst (λ (s : Spot). Least (FieldBreach (profile_value c.args.profile.now) c.args.segment.now.at (field c.args.shape.now)) (Some (field_key s))) (sym c.of_kind.ensures)
-    (forbidden_present (profile_value c.args.profile.now) c.args.segment.now.at (field c.args.shape.now) c.has_field-present.ensures.some (sym c.if-is_forbidden.ensures) (c.if-not-present.ensures.yes refl))
+    (forbidden_present (profile_value c.args.profile.now) c.args.segment.now.at (field c.args.shape.now) c.is_there-present.ensures.some (sym c.if-is_forbidden.ensures) (c.if-not-present.ensures.yes refl))
 
 pub returns-then-comes_short-clause-least : goal.returns-then-comes_short-clause-least
 returns-then-comes_short-clause-least c =
     subst (λ (s : Spot). Least (FieldBreach (profile_value c.args.profile.now) c.args.segment.now.at (field c.args.shape.now)) (Some (field_key s))) (sym c.of_kind-then-comes_short.ensures)
-    (few_least (profile_value c.args.profile.now) c.args.segment.now.at (field c.args.shape.now) c.has_field-present.ensures.some (sym c.if-is_forbidden.ensures) (c.if-comes_short.ensures.yes refl))
+    (few_least (profile_value c.args.profile.now) c.args.segment.now.at (field c.args.shape.now) c.is_there-present.ensures.some (sym c.if-is_forbidden.ensures) (c.if-comes_short.ensures.yes refl))
 
 pub returns-clause-least : goal.returns-clause-least
 returns-clause-least c =

@@ -5,32 +5,41 @@ use Rattle.gw_validate.proofs.Leasts.{reps_start, reps_found, reps_more, reps_no
 use Rattle.gw_validate.proofs.Nexts.{counted_gap, next_counted}
 use Rattle.gw_validate.proofs.fields.reps_breach.Goals as goal
 
-pub loop-next-init : goal.loop-next-init
-loop-next-init c = record {
+pub loop-found-init : goal.loop-found-init
+loop-found-init c = record {
   going = reps_start (profile_value c.args.profile.now) c.args.segment.now.at (field c.args.shape.now) c.requires.some;
-  near = c.requires.near;
+  next = c.requires.next;
+  here = c.requires.here;
 }
 
 pub rep_breach-requires-clause-before : goal.rep_breach-requires-clause-before
 rep_breach-requires-clause-before c =
-    let next = c.in-Some.ensures.next in
-    counted_gap (RepAt c.args.segment.now.at c.args.shape.now.number) c.loop-next.rep c.in-Some.next c.loop-next.before next.behind next.first c.loop-next.invariant.going.counted
+    let next = rw c.in-Some.is at c.loop-found.invariant.next in
+    counted_gap (RepAt c.args.segment.now.at c.args.shape.now.number) c.loop-found.rep c.in-Some.next c.loop-found.before next.behind next.first c.loop-found.invariant.going.counted
+
+pub rep_breach-requires-clause-near : goal.rep_breach-requires-clause-near
+rep_breach-requires-clause-near c = rw c.in-Some.is at c.loop-found.invariant.here
 
 pub returns-in-Some-rep_breach-clause-least : goal.returns-in-Some-rep_breach-clause-least
 returns-in-Some-rep_breach-clause-least c =
-    let next = c.in-Some.ensures.next in
-    reps_found (profile_value c.args.profile.now) c.args.segment.now.at (field c.args.shape.now) c.loop-next.rep c.in-Some.next c.loop-next.before c.loop-next.invariant.going next.behind next.there next.first (rep_key c.in-Some-rep_breach.breach) c.in-Some-rep_breach.ensures.least
+    let next = rw c.in-Some.is at c.loop-found.invariant.next in
+    reps_found (profile_value c.args.profile.now) c.args.segment.now.at (field c.args.shape.now) c.loop-found.rep c.in-Some.next c.loop-found.before c.loop-found.invariant.going next.behind next.there next.first (rep_key c.in-Some-rep_breach.breach) c.in-Some-rep_breach.ensures.least
 
-pub loop-next-preserved : goal.loop-next-preserved
-loop-next-preserved c =
-    let next = c.in-Some.ensures.next in
+pub loop-found-preserved : goal.loop-found-preserved
+loop-found-preserved c =
+    let next = rw c.in-Some.is at c.loop-found.invariant.next in
     record {
-      going = reps_more (profile_value c.args.profile.now) c.args.segment.now.at (field c.args.shape.now) c.loop-next.rep c.in-Some.next c.loop-next.before c.loop-next.invariant.going next.behind next.there next.first
-          (next_counted (RepAt c.args.segment.now.at c.args.shape.now.number) c.loop-next.rep c.in-Some.next c.loop-next.before next.behind next.there next.first c.loop-next.invariant.going.counted)
+      going = reps_more (profile_value c.args.profile.now) c.args.segment.now.at (field c.args.shape.now) c.loop-found.rep c.in-Some.next c.loop-found.before c.loop-found.invariant.going next.behind next.there next.first
+          (next_counted (RepAt c.args.segment.now.at c.args.shape.now.number) c.loop-found.rep c.in-Some.next c.loop-found.before next.behind next.there next.first c.loop-found.invariant.going.counted)
           c.in_default-rep_breach.ensures.least;
-      near = c.in_default-rep_breach.ensures.near;
+      next = c.next_rep-found.ensures.next;
+      here = c.next_rep-found.ensures.here;
     }
 
 pub returns-clause-least : goal.returns-clause-least
 returns-clause-least c =
-    reps_none (profile_value c.args.profile.now) c.args.segment.now.at (field c.args.shape.now) c.loop-next.rep c.loop-next.before c.loop-next.invariant.going c.in_default.ensures.next.none
+    let past = rw c.in_default.is at c.loop-found.invariant.next in
+    reps_none (profile_value c.args.profile.now) c.args.segment.now.at (field c.args.shape.now) c.loop-found.rep c.loop-found.before c.loop-found.invariant.going past.none
+
+pub returns-clause-near : goal.returns-clause-near
+returns-clause-near c = rw c.in_default.is at c.loop-found.invariant.here

@@ -1,15 +1,18 @@
 use Rattle.std.proofs.Common.{◌+◌, ◌-◌, ◌^◌, [], ◌∷◌}
+use Rattle.std.specs.Prelude.{MatchOption}
 use Rattle.std.specs.FinMap as texts
 use Rattle.gw_profile.specs.Seen.{field, profile_value}
 use Rattle.gw_validate.specs.own.Least.{RepsGoing}
-use Rattle.gw_validate.specs.own.Walk.{IsBefore}
+use Rattle.gw_validate.specs.own.Walk.{IsBefore, IsNextRep, IsNoRep}
 use Rattle.gw_validate.proofs.fields.reps_breach.Given as goal
 
-abbrev pub invariant-loop-next : goal.invariant-loop-next
-invariant-loop-next l = record {
+abbrev pub invariant-loop-found : goal.invariant-loop-found
+invariant-loop-found l = record {
   going : RepsGoing (profile_value l.profile) l.segment.at (field l.shape) l.rep l.before;
-  near : IsBefore (l.shape.number ∷ (l.rep + 1) ∷ 0 ∷ 0 ∷ []) (texts.entries l.segment.at) l.near;
+  next : MatchOption l.found (IsNoRep l.segment.at l.shape.number l.rep) (IsNextRep l.segment.at l.shape.number l.rep);
+  here : MatchOption l.found (IsBefore ((l.shape.number + 1) ∷ 0 ∷ 0 ∷ 0 ∷ []) (texts.entries l.segment.at) l.near)
+      (λ rep. IsBefore (l.shape.number ∷ rep ∷ 0 ∷ 0 ∷ []) (texts.entries l.segment.at) l.near);
 }
 
-abbrev pub decreases-loop-next : goal.decreases-loop-next
-decreases-loop-next l = 2 ^ 64 - l.rep
+abbrev pub decreases-loop-found : goal.decreases-loop-found
+decreases-loop-found l = 2 ^ 64 - l.rep
