@@ -92,11 +92,12 @@ fn subs_of(
     match leaf {
         None => {
             below.reverse();
+            below.shrink_to_fit();
             Ok(below)
         }
         Some(leaf) => {
             let only = sub_of(alloc, 1, Some(Usage::R), Some(leaf))?;
-            let mut all = Vec::new(alloc);
+            let mut all = Vec::with_capacity(alloc, 1)?;
             all.push(only)?;
             Ok(all)
         }
@@ -114,6 +115,7 @@ fn comps_of(
     match leaf {
         None => {
             below.reverse();
+            below.shrink_to_fit();
             Ok(below)
         }
         Some(leaf) => {
@@ -123,7 +125,7 @@ fn comps_of(
                 usage: Usage::R,
                 subs,
             };
-            let mut all = Vec::new(alloc);
+            let mut all = Vec::with_capacity(alloc, 1)?;
             all.push(only)?;
             Ok(all)
         }
@@ -155,6 +157,7 @@ fn add_segment(
     let label = copy_of(alloc, label)?;
     let mut fields = mem::replace(&mut below.fields, Vec::new(alloc));
     fields.reverse();
+    fields.shrink_to_fit();
     close_parts(alloc, below);
     below.nodes.push(Node::Seg(SegNode {
         name,
