@@ -150,12 +150,16 @@ fn answer_at_gate<L: Ledger, R: Wait + AllocGlobal + Clock + Eprint>(
     let mut reader = Reads::new(&mut whole);
     let answered = session(alloc, &mut door, &mut clock, &mut reader, &mut writer);
     let (end, held) = whole.into_end();
-    if is_overlong(&answered) {
-        let number = door.refuse();
-        reject(hub, &sender.stream, sender.number, held.bytes(), number)?;
-    }
+    let refused = if is_overlong(&answered) {
+        Some(door.refuse())
+    } else {
+        None
+    };
     let Gatekeeper { reporter, .. } = door;
     service.hand_in(reporter);
+    if let Some(number) = refused {
+        reject(hub, &sender.stream, sender.number, held.bytes(), number)?;
+    }
     sender.held = held;
     sender.counts = sum(sender.counts, answered?);
     Ok(end)
