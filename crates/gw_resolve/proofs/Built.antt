@@ -1,6 +1,5 @@
 -- Items made one after the other.
 use Rattle.std.proofs.Common.{◌≡◌, ℕ, ◌+◌, ◌<◌, ◌≤◌, List, [], ◌∷◌, ◌++◌, drop, get_or, length, refl, sym, ap, ◌∙◌}
-use Rattle.gw_maplang.specs.Shapes.{TableValue}
 use Rattle.gw_maplang.specs.Shapes as raw
 use Rattle.gw_maplang.specs.Seen as raws
 use Rattle.gw_maplang.specs.declared.item.Item as their
@@ -23,21 +22,21 @@ use Rattle.gw_resolve.proofs.Noting.{front}
 -- ---- items
 
 -- items with others behind them
-abbrev pub with_items : List TableValue → List Item → Items → Items
+abbrev pub with_items : List raw.TableValue → List Item → Items → Items
 with_items tables [] rest = rest
 with_items tables (i ∷ items) rest = with_item tables i (with_items tables items rest)
 
-pub with_none : (tables : List TableValue) (xs : List Item) → with_items tables xs no_items ≡ all_items tables xs
+pub with_none : (tables : List raw.TableValue) (xs : List Item) → with_items tables xs no_items ≡ all_items tables xs
 with_none tables [] = refl
 with_none tables (x ∷ xs) = ap (with_item tables x) (with_none tables xs)
 
-pub with_more : (tables : List TableValue) (xs : List Item) (x : Item) (rest : Items) → with_items tables (xs ++ x ∷ []) rest ≡ with_items tables xs (with_item tables x rest)
+pub with_more : (tables : List raw.TableValue) (xs : List Item) (x : Item) (rest : Items) → with_items tables (xs ++ x ∷ []) rest ≡ with_items tables xs (with_item tables x rest)
 with_more tables [] x rest = refl
 with_more tables (y ∷ xs) x rest = ap (with_item tables y) (with_more tables xs x rest)
 
 -- one more of the items that are made
-pub items_made : (tables : List TableValue) (scope : List Element) (nodes : Forest) (whole : Items) (xs : List their.Item) (i : ℕ) (x : their.Item) (ys zs : List Item) (y : Item) → i < length xs → x ≡ get_or xs i x → zs ≡ ys ++ y ∷ []
-    → ((tables : List TableValue) (rest : raw.Items) → with_item tables y (resolved_items tables scope nodes rest) ≡ resolved_items tables scope nodes (raws.with_item x rest))
+pub items_made : (tables : List raw.TableValue) (scope : List Element) (nodes : Forest) (whole : Items) (xs : List their.Item) (i : ℕ) (x : their.Item) (ys zs : List Item) (y : Item) → i < length xs → x ≡ get_or xs i x → zs ≡ ys ++ y ∷ []
+    → ((tables : List raw.TableValue) (rest : raw.Items) → with_item tables y (resolved_items tables scope nodes rest) ≡ resolved_items tables scope nodes (raws.with_item x rest))
     → whole ≡ with_items tables ys (resolved_items tables scope nodes (raws.all_items (drop i xs))) → whole ≡ with_items tables zs (resolved_items tables scope nodes (raws.all_items (drop (i + 1) xs)))
 items_made tables scope nodes whole xs i x ys zs y m e pushed one so_far =
     so_far ∙ ap (λ l. with_items tables ys (resolved_items tables scope nodes (raws.all_items l))) (front xs i x m e)
@@ -46,15 +45,15 @@ items_made tables scope nodes whole xs i x ys zs y m e pushed one so_far =
     ∙ ap (λ l. with_items tables l (resolved_items tables scope nodes (raws.all_items (drop (i + 1) xs)))) (sym pushed)
 
 -- none is left
-pub items_done : (tables : List TableValue) (scope : List Element) (nodes : Forest) (whole : Items) (xs : List their.Item) (i : ℕ) (ys : List Item) → length xs ≤ i → whole ≡ with_items tables ys (resolved_items tables scope nodes (raws.all_items (drop i xs))) → all_items tables ys ≡ whole
+pub items_done : (tables : List raw.TableValue) (scope : List Element) (nodes : Forest) (whole : Items) (xs : List their.Item) (i : ℕ) (ys : List Item) → length xs ≤ i → whole ≡ with_items tables ys (resolved_items tables scope nodes (raws.all_items (drop i xs))) → all_items tables ys ≡ whole
 items_done tables scope nodes whole xs i ys le so_far =
     sym (so_far ∙ ap (λ l. with_items tables ys (resolved_items tables scope nodes (raws.all_items l))) (drop_of_length-le xs le) ∙ with_none tables ys)
 
 -- a group with its items
-pub made_group : (tables : List TableValue) (scope inner asked : List Element) (nodes below : Forest) (g : their_group.GroupItem) (made : GroupItem) (p q : List (Vec ℕ)) (label : List ℕ) (xs : List their.Item) (rest : raw.Items) → p ≡ g.walk.path.items → q ≡ g.walk.path.items → label ≡ g.label.items → xs ≡ g.items.items
+pub made_group : (tables : List raw.TableValue) (scope inner asked : List Element) (nodes below : Forest) (g : their_group.GroupItem) (made : GroupItem) (p q : List (Vec ℕ)) (label : List ℕ) (xs : List their.Item) (rest : raw.Items) → p ≡ g.walk.path.items → q ≡ g.walk.path.items → label ≡ g.label.items → xs ≡ g.items.items
     → made.line ≡ g.line → place made.place ≡ place_or scope (raws.items_all p) → inner ≡ within scope (place_or scope (raws.items_all q)) → asked ≡ within scope (place_or scope (raws.items_all q))
     → some_condition made.condition ≡ condition_within asked (raws.field_condition_some g.walk.condition) → made.child ≡ node_or 0 nodes label → below ≡ nodes_of_child nodes made.child
-    → ((tables : List TableValue) → all_items tables made.items.items ≡ resolved_items tables inner below (raws.all_items xs))
+    → ((tables : List raw.TableValue) → all_items tables made.items.items ≡ resolved_items tables inner below (raws.all_items xs))
     → with_item tables (Group made) (resolved_items tables scope nodes rest) ≡ resolved_items tables scope nodes (raws.with_item (their.EachAs g) rest)
 made_group tables scope inner asked nodes below g made p q label xs rest a b c d line at walks asks condition child lower items =
     let child' : made.child ≡ node_or 0 nodes g.label.items = child ∙ ap (node_or 0 nodes) c in
@@ -71,10 +70,10 @@ made_group tables scope inner asked nodes below g made p q label xs rest a b c d
     ∙ ap (resolved_items tables scope nodes) (sym (their_rows.group_items g rest))
 
 -- a flat with its items
-pub made_flat : (tables : List TableValue) (scope inner asked : List Element) (nodes : Forest) (f : their_flat.FlatItem) (made : FlatItem) (p q : List (Vec ℕ)) (xs : List their.Item) (rest : raw.Items) → p ≡ f.walk.path.items → q ≡ f.walk.path.items → xs ≡ f.items.items
+pub made_flat : (tables : List raw.TableValue) (scope inner asked : List Element) (nodes : Forest) (f : their_flat.FlatItem) (made : FlatItem) (p q : List (Vec ℕ)) (xs : List their.Item) (rest : raw.Items) → p ≡ f.walk.path.items → q ≡ f.walk.path.items → xs ≡ f.items.items
     → made.line ≡ f.line → place made.place ≡ place_or scope (raws.items_all p) → inner ≡ within scope (place_or scope (raws.items_all q)) → asked ≡ within scope (place_or scope (raws.items_all q))
     → some_condition made.condition ≡ condition_within asked (raws.field_condition_some f.walk.condition)
-    → ((tables : List TableValue) → all_items tables made.items.items ≡ resolved_items tables inner nodes (raws.all_items xs))
+    → ((tables : List raw.TableValue) → all_items tables made.items.items ≡ resolved_items tables inner nodes (raws.all_items xs))
     → with_item tables (Flat made) (resolved_items tables scope nodes rest) ≡ resolved_items tables scope nodes (raws.with_item (their.EachFlat f) rest)
 made_flat tables scope inner asked nodes f made p q xs rest a b d line at walks asks condition items =
     let at' : place made.place ≡ place_or scope (raws.path f.walk.path) = at ∙ ap (λ x. place_or scope (raws.items_all x)) a in

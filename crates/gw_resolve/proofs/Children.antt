@@ -59,11 +59,8 @@ abbrev within_of : (o : Option Element) → Forest
 within_of None = nothing
 within_of (Some e) = nodes_of e
 
-within_is : (f : Forest) (i : ℕ) → nodes_of_child f i ≡ within_of (child f i)
-within_is f i = refl
-
 pub same_within : (f g : Forest) (i j : ℕ) → child f i ≡ child g j → nodes_of_child f i ≡ nodes_of_child g j
-same_within f g i j e = within_is f i ∙ ap within_of e ∙ sym (within_is g j)
+same_within f g i j e = ap within_of e
 
 pub none_within : (f : Forest) (i : ℕ) → child f i ≡ None → nodes_of_child f i ≡ nothing
-none_within f i e = within_is f i ∙ ap within_of e
+none_within f i e = ap within_of e

@@ -3,7 +3,7 @@ use Rattle.std.proofs.Common.{◌≡◌, ℕ, ◌+◌, ◌-◌, ◌<◌, ◌≤�
 use Rattle.std.specs.Prelude.{option_map, option_and_then}
 use Rattle.std.specs.Global.{Vec}
 use Rattle.std.proofs.Math.ListN.{drop_of_length-le, length-drop}
-use Rattle.std.proofs.lemmas.List.{append-nil, take_all}
+use Rattle.std.proofs.lemmas.List.{append-nil, append_assoc, take_all}
 use Rattle.gw_profile.specs.Shapes.{Forest}
 use Rattle.gw_profile.specs.Labels.{labelled}
 use Rattle.gw_maplang.specs.Seen.{items_all}
@@ -21,13 +21,9 @@ steps_front nodes xs i x label found m e same is =
     ap (λ l. steps_of nodes (items_all l)) (front xs i x m e)
     ∙ ap (option_and_then (λ n. option_map (λ steps. n ∷ steps) (steps_of (nodes_of_child nodes n) (items_all (drop (i + 1) xs))))) (sym (is ∙ ap (labelled nodes) same))
 
-behind : (before : List ℕ) (n : ℕ) (more : List ℕ) → before ++ n ∷ more ≡ (before ++ n ∷ []) ++ more
-behind [] n more = refl
-behind (b ∷ before) n more = ap (λ l. b ∷ l) (behind before n more)
-
 behind_all : (before : List ℕ) (n : ℕ) (more : Option (List ℕ)) → option_map (λ l. before ++ l) (option_map (λ l. n ∷ l) more) ≡ option_map (λ l. (before ++ n ∷ []) ++ l) more
 behind_all before n None = refl
-behind_all before n (Some more) = ap Some (behind before n more)
+behind_all before n (Some more) = ap Some (sym (append_assoc before (n ∷ []) more))
 
 -- one more step
 pub steps_next : (nodes below : Forest) (xs : List (Vec ℕ)) (i : ℕ) (x : Vec ℕ) (label : List ℕ) (found : Option ℕ) (n : ℕ) (before after : List ℕ) (whole : Option (List ℕ)) → i < length xs → x ≡ get_or xs i x → label ≡ x.items → found ≡ labelled nodes label

@@ -3,6 +3,7 @@ use Rattle.std.proofs.Common.{◌≡◌, ℕ, ◌+◌, ◌<◌, Bool, true, fals
 use Rattle.std.specs.Prelude.{◌&&◌, is_some}
 use Rattle.std.specs.List.{list_all}
 use Rattle.std.proofs.lemmas.List.{append-nil}
+use Rattle.std.proofs.lemmas.List.Folds.{list_all-append}
 use Rattle.gw_maplang.specs.declared.item.FlatItem.{FlatItem}
 use Rattle.gw_maplang.specs.declared.item.Item.{Item, SegFrom, SegAlways, EachFlat, EachAs', EachFlat'}
 use Rattle.gw_maplang.specs.Shapes.{Items, nothing}
@@ -46,16 +47,8 @@ first_missing o whole a b l none is so_far e = so_far ∙ ap (λ k. slice_get k 
 
 -- ---- all
 
-all_of_both : (test : List ℕ → Bool) (a b : List (List ℕ)) → list_all test (a ++ b) ≡ list_all test a && list_all test b
-all_of_both test [] b = refl
-all_of_both test (x ∷ a) b = ap (λ t. test x && t) (all_of_both test a b) ∙ grouped (test x) (list_all test a) (list_all test b)
-  where
-    grouped : (p q r : Bool) → p && (q && r) ≡ p && q && r
-    grouped true q r = refl
-    grouped false q r = refl
-
 pub one_other : (test : List ℕ → Bool) (whole : Bool) (a b l : List (List ℕ)) → false ≡ list_all test a → l ≡ a ++ b → whole ≡ list_all test l → false ≡ whole
-one_other test whole a b l here is so_far = sym (so_far ∙ ap (list_all test) is ∙ all_of_both test a b ∙ ap (λ t. t && list_all test b) (sym here))
+one_other test whole a b l here is so_far = sym (so_far ∙ ap (list_all test) is ∙ list_all-append test a b ∙ ap (λ t. t && list_all test b) (sym here))
 
 pub one_more : (test : List ℕ → Bool) (whole : Bool) (a b l : List (List ℕ)) → true ≡ list_all test a → l ≡ a ++ b → whole ≡ list_all test l → whole ≡ list_all test b
-one_more test whole a b l here is so_far = so_far ∙ ap (list_all test) is ∙ all_of_both test a b ∙ ap (λ t. t && list_all test b) (sym here)
+one_more test whole a b l here is so_far = so_far ∙ ap (list_all test) is ∙ list_all-append test a b ∙ ap (λ t. t && list_all test b) (sym here)

@@ -1,6 +1,5 @@
 -- Failures found one list after the other.
 use Rattle.std.proofs.Common.{◌≡◌, ℕ, zero, suc, Bool, true, false, ◌+◌, ◌-◌, ◌<◌, ◌≤◌, add-one, List, [], ◌∷◌, ◌++◌, map, flat_map, take, drop, drop-cons, get_or, length, Option, Some, refl, sym, ap, ap₂, ◌∙◌, ◌==◌, arith}
-use Rattle.std.proofs.Math.ListN.{drop_of_length-le}
 use Rattle.std.proofs.Math.Seq.{take-append_seam}
 use Rattle.std.proofs.lemmas.List.{append-nil, append_assoc, take-map, length-append, length-map}
 use Rattle.std.proofs.lemmas.Bool.{eqb-true}
@@ -59,11 +58,6 @@ pub items_next : (scope : List Element) (xs : List Item) (i : ℕ) (x : Item) (o
 items_next scope xs i x old new m e made =
     added_one old new (path_failures scope (with_item x nothing)) (path_failures scope (all_items (drop (i + 1) xs))) (path_failures scope (all_items (drop i xs)))
     (ap (λ l. path_failures scope (all_items l)) (front xs i x m e) ∙ one_item scope x (all_items (drop (i + 1) xs))) made
-
--- none is left
-pub paths_done : (scope : List Element) (xs : List Item) (i : ℕ) (new whole : List Failure) → length xs ≤ i → whole ≡ new ++ path_failures scope (all_items (drop i xs)) → new ≡ whole
-paths_done scope xs i new whole le so_far =
-    sym (so_far ∙ ap (λ l. new ++ path_failures scope (all_items l)) (drop_of_length-le xs le) ∙ append-nil new)
 
 -- ---- what hides the later ones
 

@@ -1,7 +1,6 @@
 -- The failures of target labels, one item after the other.
-use Rattle.std.proofs.Common.{◌≡◌, ℕ, ◌+◌, ◌<◌, ◌≤◌, List, [], ◌++◌, drop, get_or, length, Option, Some, None, refl, sym, ap, ◌∙◌}
+use Rattle.std.proofs.Common.{◌≡◌, ℕ, ◌+◌, ◌<◌, List, [], ◌++◌, drop, get_or, length, Option, Some, None, refl, sym, ap, ◌∙◌}
 use Rattle.std.specs.Prelude.{not, nat_lt, unwrap_or, option_and_then}
-use Rattle.std.proofs.Math.ListN.{drop_of_length-le}
 use Rattle.std.proofs.lemmas.List.{append-nil}
 use Rattle.gw_profile.specs.Shapes.{Forest}
 use Rattle.gw_maplang.specs.declared.item.GroupItem.{GroupItem}
@@ -36,11 +35,6 @@ targets_next nodes xs i x old new j k m e made at =
     added_one old new (target_failures nodes j (with_item x nothing)) (target_failures nodes (reached nodes j x) rest) (target_failures nodes j (all_items (drop i xs)))
     (ap (λ l. target_failures nodes j (all_items l)) (front xs i x m e) ∙ one_target nodes j x rest) made
     ∙ ap (λ n. new ++ target_failures nodes n rest) (sym at)
-
--- none is left
-pub targets_done : (nodes : Forest) (j : ℕ) (xs : List Item) (i : ℕ) (new whole : List Failure) → length xs ≤ i → whole ≡ new ++ target_failures nodes j (all_items (drop i xs)) → new ≡ whole
-targets_done nodes j xs i new whole le so_far =
-    sym (so_far ∙ ap (λ l. new ++ target_failures nodes j (all_items l)) (drop_of_length-le xs le) ∙ append-nil new)
 
 -- ---- a group or a flat, and the items in it
 

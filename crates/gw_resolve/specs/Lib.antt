@@ -7,7 +7,5 @@ pub mod Lawful
 pub mod Naming
 pub mod Positions
 pub mod Seen
-pub mod Noted
-pub mod Founds
 pub mod Outcome
 pub mod own

@@ -5,8 +5,7 @@ use Rattle.gw_profile.specs.Shapes.{Forest, nothing, ProfileValue}
 use Rattle.gw_profile.specs.Labels.{labelled}
 use Rattle.gw_profile.specs.Line.{allows}
 use Rattle.gw_maplang.specs.Shapes as raw
-use Rattle.gw_maplang.specs.Shapes.{MapValue, TableValue, Rows, table_of}
-use Rattle.gw_resolve.specs.Places.{Element, a_segment, a_group, the_whole, nodes_of, child, nodes_of_child, Place, found, element_of, within}
+use Rattle.gw_resolve.specs.Places.{Element, a_segment, a_group, the_whole, nodes_of, child, nodes_of_child, Place, card_of, found, element_of, within}
 use Rattle.gw_resolve.specs.Resolved.{Reference, FieldCondition, Source, of_field, of_current, Leaf, const, copied, looked_up, dated, Alternative, At, Making, copy, first, repeat, build, Rule, Items, no_items, segment_item, group_item, flat_item, Drop, Resolved}
 use Rattle.gw_resolve.specs.Order.{is_segment, is_group}
 use Rattle.gw_resolve.specs.Failures.{Failure, at_line, fails, where_so, or_later}
@@ -52,16 +51,15 @@ place_or scope path = unwrap_or (place_of scope path) itself
 
 -- ---- source paths (rules 1 and 2)
 
--- no step may come more than once
+-- whether it may come more than once
+abbrev pub comes_often : Option Element → Bool
+comes_often None = false
+comes_often (Some e) = allows (card_of e).max 2
+
+-- no step may
 abbrev pub are_single : Forest → List ℕ → Bool
 are_single nodes [] = true
-are_single nodes (i ∷ steps) = is_single (child nodes i) && are_single (nodes_of_child nodes i) steps
-  where
-    is_single : Option Element → Bool
-    is_single None = true
-    is_single (Some (a_segment s)) = not (allows s.card.max 2)
-    is_single (Some (a_group g below)) = not (allows g.card.max 2)
-    is_single (Some (the_whole below)) = true
+are_single nodes (i ∷ steps) = not (comes_often (child nodes i)) && are_single (nodes_of_child nodes i) steps
 
 abbrev pub but_last : List ℕ → List ℕ
 but_last [] = []
@@ -228,29 +226,29 @@ abbrev pub source : List Element → raw.Ref → Source
 source scope (raw.Field from place) = of_field (reference scope from) place.comp place.sub
 source scope (raw.Current place) = of_current place.comp place.sub
 
-abbrev pub no_rows : Rows
+abbrev pub no_rows : raw.Rows
 no_rows = record { rows = []; other = None }
 
-abbrev pub leaf : List TableValue → List Element → raw.Leaf → Leaf
+abbrev pub leaf : List raw.TableValue → List Element → raw.Leaf → Leaf
 leaf tables scope (raw.Const value) = const value
 leaf tables scope (raw.Copy ref) = copied (source scope ref)
-leaf tables scope (raw.Lookup table ref) = looked_up (unwrap_or (table_of table tables) no_rows) (source scope ref)
+leaf tables scope (raw.Lookup table ref) = looked_up (unwrap_or (raw.table_of table tables) no_rows) (source scope ref)
 leaf tables scope (raw.Date digits ref) = dated digits (source scope ref)
 
-abbrev pub alternative : List TableValue → List Element → raw.Alternative → Alternative
+abbrev pub alternative : List raw.TableValue → List Element → raw.Alternative → Alternative
 alternative tables scope o = record { line = o.line; leaf = leaf tables scope o.leaf }
 
-abbrev pub at_leaf : List TableValue → List Element → raw.LeafValue → At
+abbrev pub at_leaf : List raw.TableValue → List Element → raw.LeafValue → At
 at_leaf tables scope l =
     record { line = l.line; comp = l.place.comp; sub = l.place.sub; leaf = leaf tables scope l.leaf; others = map (alternative tables scope) l.others }
 
-abbrev pub making : List TableValue → List Element → raw.Making → Making
+abbrev pub making : List raw.TableValue → List Element → raw.Making → Making
 making tables scope (raw.Copies from) = copy (reference scope from)
 making tables scope (raw.Firsts from condition) = first (reference scope from) condition
 making tables scope (raw.Repeats from condition leaves) = repeat (reference scope from) condition (map (at_leaf tables scope) leaves)
 making tables scope (raw.Builds leaves) = build (map (at_leaf tables scope) leaves)
 
-abbrev pub rule : List TableValue → List Element → raw.RuleValue → Rule
+abbrev pub rule : List raw.TableValue → List Element → raw.RuleValue → Rule
 rule tables scope r = record { line = r.line; field = r.field; making = making tables scope r.making }
 
 -- a condition, within what is walked
@@ -258,7 +256,7 @@ abbrev pub condition_within : List Element → Option raw.FieldCondition → Opt
 condition_within scope condition = option_map (λ c. record { from = reference scope c.from; condition = c.condition }) condition
 
 -- items of a level with these target nodes
-abbrev pub resolved_items : List TableValue → List Element → Forest → raw.Items → Items
+abbrev pub resolved_items : List raw.TableValue → List Element → Forest → raw.Items → Items
 resolved_items tables scope nodes raw.nothing = no_items
 resolved_items tables scope nodes (raw.segment s rest) =
     segment_item
@@ -290,13 +288,13 @@ abbrev pub drop : Element → raw.DropValue → Drop
 drop message d = record { steps = (place_or (message ∷ []) d.path).steps; field = d.field }
 
 -- the failures of the rules 1 to 3
-abbrev pub naming_failures : ProfileValue → ProfileValue → MapValue → List Failure
+abbrev pub naming_failures : ProfileValue → ProfileValue → raw.MapValue → List Failure
 naming_failures from to m =
     path_failures (the_whole from.nodes ∷ []) m.items
     ++ flat_map (drop_failures (the_whole from.nodes)) m.drops
     ++ target_failures to.nodes 0 m.items
 
-abbrev pub resolved : ProfileValue → ProfileValue → MapValue → Resolved
+abbrev pub resolved : ProfileValue → ProfileValue → raw.MapValue → Resolved
 resolved from to m =
     record {
       line = m.line;

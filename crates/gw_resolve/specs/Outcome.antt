@@ -4,49 +4,24 @@ use Rattle.gw_profile.specs.Shapes.{Forest, ProfileValue}
 use Rattle.gw_maplang.specs.Seen as raw
 use Rattle.gw_maplang.specs.Shapes.{MapValue, TableValue, Items, nothing}
 use Rattle.gw_maplang.specs.declared.item.Item.{Item as TheirItem}
-use Rattle.gw_maplang.specs.declared.rule.Alternative as theirs
-use Rattle.gw_maplang.specs.declared.rule.LeafRule.{LeafRule}
-use Rattle.gw_maplang.specs.declared.rule.Rule.{Rule as TheirRule}
 use Rattle.gw_resolve.specs.declared.named.ResolvedMap.{ResolvedMap}
 use Rattle.gw_resolve.specs.declared.named.Resolving as declared
 use Rattle.gw_resolve.specs.declared.failure.Failure.{Failure}
 use Rattle.gw_resolve.specs.declared.items.ResolvedItem.{ResolvedItem}
 use Rattle.gw_resolve.specs.declared.lost.NameFailures.{NameFailures}
-use Rattle.gw_resolve.specs.declared.resolved.Alternative.{Alternative}
-use Rattle.gw_resolve.specs.declared.resolved.At.{At}
 use Rattle.gw_resolve.specs.declared.resolved.Item.{Item}
-use Rattle.gw_resolve.specs.declared.resolved.Making.{Making}
-use Rattle.gw_resolve.specs.declared.resolved.Rule.{Rule}
 use Rattle.gw_resolve.specs.Failures.{Failure as Told, where_so, or_later}
 use Rattle.gw_resolve.specs.Places.{Element}
 use Rattle.gw_resolve.specs.Naming as spec
-use Rattle.gw_resolve.specs.Noted.{Notes}
-use Rattle.gw_resolve.specs.Naming.{naming_failures, resolved}
-use Rattle.gw_resolve.specs.Seen as seen
-use Rattle.gw_resolve.specs.Seen.{failures, with_item, all_items, left_out}
+use Rattle.gw_resolve.specs.Seen.{Notes, failures, with_item, all_items, left_out}
 
 -- ---- parts, whatever the map's tables are
 
-abbrev pub MakesOther : List Element → theirs.Alternative → Alternative → Type 0
-MakesOther scope from made = (tables : List TableValue) → seen.alternative tables made ≡ spec.alternative tables scope (raw.alternative from)
+abbrev pub IsMadeOf : {A B C : Type 0} → (List TableValue → B → C) → (List TableValue → List Element → A → C) → List Element → A → B → Type 0
+IsMadeOf seen spec scope from made = (tables : List TableValue) → seen tables made ≡ spec tables scope from
 
-abbrev pub MakesOthers : List Element → List theirs.Alternative → List Alternative → Type 0
-MakesOthers scope from made = (tables : List TableValue) → map (seen.alternative tables) made ≡ map (spec.alternative tables scope) (map raw.alternative from)
-
-abbrev pub MakesLeaf : List Element → LeafRule → At → Type 0
-MakesLeaf scope from made = (tables : List TableValue) → seen.at_leaf tables made ≡ spec.at_leaf tables scope (raw.leaf_value from)
-
-abbrev pub MakesLeaves : List Element → List LeafRule → List At → Type 0
-MakesLeaves scope from made = (tables : List TableValue) → map (seen.at_leaf tables) made ≡ map (spec.at_leaf tables scope) (map raw.leaf_value from)
-
-abbrev pub MakesMaking : List Element → TheirRule → Making → Type 0
-MakesMaking scope from made = (tables : List TableValue) → seen.making tables made ≡ spec.making tables scope ((raw.rule from).making)
-
-abbrev pub MakesRule : List Element → TheirRule → Rule → Type 0
-MakesRule scope from made = (tables : List TableValue) → seen.rule tables made ≡ spec.rule tables scope (raw.rule from)
-
-abbrev pub MakesRules : List Element → List TheirRule → List Rule → Type 0
-MakesRules scope from made = (tables : List TableValue) → map (seen.rule tables) made ≡ map (spec.rule tables scope) (map raw.rule from)
+abbrev pub AreMadeOf : {A B C : Type 0} → (List TableValue → B → C) → (List TableValue → List Element → A → C) → List Element → List A → List B → Type 0
+AreMadeOf seen spec scope from made = (tables : List TableValue) → map (seen tables) made ≡ map (spec tables scope) from
 
 -- an item of a level with these target nodes, before any others
 abbrev pub MakesItem : List Element → Forest → TheirItem → Item → Type 0
@@ -91,13 +66,13 @@ HidesUnled old new leads kept = (own later : List Told) → length own ≡ kept 
 
 -- no rule on labels fails, and this is the map without them
 pub record IsNamed (from to : ProfileValue) (m : MapValue) (made : ResolvedMap) : Type 0 where
-  pub none : naming_failures from to m ≡ []
-  pub items : all_items m.tables made.items.items ≡ (resolved from to m).items
-  pub drops : map left_out made.drops.items ≡ (resolved from to m).drops
+  pub none : spec.naming_failures from to m ≡ []
+  pub items : all_items m.tables made.items.items ≡ (spec.resolved from to m).items
+  pub drops : map left_out made.drops.items ≡ (spec.resolved from to m).drops
 
 -- some rule on labels fails, and these are the failures
 pub record IsLost (from to : ProfileValue) (m : MapValue) (found : List Failure) : Type 0 where
-  pub all : failures found ≡ naming_failures from to m
+  pub all : failures found ≡ spec.naming_failures from to m
   pub some : found ≡ [] → ⊥
 
 -- the map without labels, or the failures of the rules on them

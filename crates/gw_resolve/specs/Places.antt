@@ -55,20 +55,24 @@ pub record Found : Type 0 where
   pub element : Element
   pub count : Interval
 
+-- the whole comes once
+abbrev pub card_of : Element → Card
+card_of (a_segment s) = s.card
+card_of (a_group g nodes) = g.card
+card_of (the_whole nodes) = record { min = 1; max = Some 1 }
+
+-- what was found below an element, as often as that comes
 abbrev pub times : Card → Option Found → Option Found
 times card None = None
 times card (Some f) = Some (record { element = f.element; count = product (of_card card) f.count })
 
-abbrev pub child_found : Forest → ℕ → (Element → Option Found) → Option Found
-child_found nothing i go = None
-child_found (segment s rest) zero go = times s.card (go (a_segment s))
-child_found (segment s rest) (suc i) go = child_found rest i go
-child_found (group g nodes rest) zero go = times g.card (go (a_group g nodes))
-child_found (group g nodes rest) (suc i) go = child_found rest i go
+abbrev pub node_found : Option Element → (Element → Option Found) → Option Found
+node_found None go = None
+node_found (Some e) go = times (card_of e) (go e)
 
 abbrev pub found_below : List ℕ → Element → Option Found
 found_below [] e = Some (record { element = e; count = once })
-found_below (i ∷ steps) e = child_found (nodes_of e) i (found_below steps)
+found_below (i ∷ steps) e = node_found (child (nodes_of e) i) (found_below steps)
 
 abbrev pub found_in : List Element → ℕ → List ℕ → Option Found
 found_in [] out steps = None

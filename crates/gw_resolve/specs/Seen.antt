@@ -1,11 +1,13 @@
 -- Parts of the program, without where they lie in memory.
-use Rattle.std.specs.Prelude.{◌≡◌, ℕ, min, List, [], ◌∷◌, map, reverse, Option, option_map, unwrap_or}
+use Rattle.std.specs.Prelude.{◌≡◌, ℕ, min, List, [], ◌∷◌, ◌++◌, map, reverse, Option, option_map, unwrap_or}
+use Rattle.std.specs.Global.{Vec}
 use Rattle.gw_profile.specs.Labels.{nodes_in}
 use Rattle.gw_profile.specs.Seen.{segment_value}
 use Rattle.gw_resolve.specs.declared.failure.Failure as failures_of
 use Rattle.gw_resolve.specs.declared.failure.FailureSite as marks
 use Rattle.gw_resolve.specs.declared.interval.Interval as intervals
 use Rattle.gw_resolve.specs.declared.element.ScopeNode as elements
+use Rattle.gw_resolve.specs.declared.element.CountedNode as founds
 use Rattle.gw_resolve.specs.Failures.{Mark, Failure}
 use Rattle.gw_resolve.specs.Intervals.{Interval}
 use Rattle.gw_resolve.specs.declared.resolved.ScopePath as places
@@ -22,7 +24,7 @@ use Rattle.gw_resolve.specs.declared.resolved.LeftOut.{LeftOut}
 use Rattle.gw_maplang.specs.Seen.{condition as seen_condition, condition_some}
 use Rattle.gw_maplang.specs.Shapes.{TableValue, table_of}
 use Rattle.gw_resolve.specs.Naming.{no_rows}
-use Rattle.gw_resolve.specs.Places.{Element, a_segment, a_group, the_whole, Place}
+use Rattle.gw_resolve.specs.Places.{Element, a_segment, a_group, the_whole, Place, Found}
 use Rattle.gw_resolve.specs.Resolved.{Reference, FieldCondition, Source, of_field, of_current, Leaf, const, copied, looked_up, dated, Alternative, At, Making, copy, first, repeat, build, Rule, Items, no_items, segment_item, group_item, flat_item, Drop, first_child}
 
 -- ---- counts
@@ -49,6 +51,10 @@ failure f = record { rule = f.rule; mark = mark f.mark }
 abbrev pub failures : List failures_of.Failure → List Failure
 failures = map failure
 
+-- these were found as well
+abbrev pub Notes : Vec failures_of.Failure → Vec failures_of.Failure → List Failure → Type 0
+Notes old new more = failures new.items ≡ failures old.items ++ more
+
 -- ---- elements
 
 -- a group's nodes are those of its level
@@ -60,6 +66,13 @@ element (elements.TheVariants.Whole level) = the_whole (nodes_in level)
 -- the elements that are walked, the innermost last in the program
 abbrev pub scope : List elements.ScopeNode → List Element
 scope es = reverse (map element es)
+
+-- what stands at a place; the program's counts end at the cap
+abbrev pub found_value : Option founds.CountedNode → Option Found
+found_value found = option_map (λ (f : founds.CountedNode). record { element = element f.element; count = interval f.count }) found
+
+abbrev pub saturated_found : Option Found → Option Found
+saturated_found found = option_map (λ (f : Found). record { element = f.element; count = saturated f.count }) found
 
 -- ---- a map without labels; its tables stand apart
 

@@ -4,8 +4,8 @@ ghost use Rattle.gw_profile.specs.Labels.{inner, nodes_in};
 ghost use Rattle.gw_profile.specs.Seen.{forest, node_forest};
 ghost use Rattle.gw_profile.specs.Shapes.{nothing};
 ghost use Rattle.gw_resolve.specs.Places as spec;
-ghost use Rattle.gw_resolve.specs.Seen.{element as seen, scope as walked, place as seen_place, interval, saturated};
-ghost use Rattle.gw_resolve.specs.Founds.{count_of, saturated_found, found_value};
+ghost use Rattle.gw_resolve.specs.Intervals.{of_card};
+ghost use Rattle.gw_resolve.specs.Seen.{element as seen, scope as walked, place as seen_place, interval, saturated, saturated_found, found_value};
 ghost use Rattle.gw_resolve.specs.own.Looking.{IsTimes};
 
 use crate::interval::{Interval, once};
@@ -90,7 +90,7 @@ pub(crate) fn nodes_of_child<'a, 'p>(
 
 // How often an element comes; the whole comes once.
 fn count_of(element: ScopeNode<'_, '_>) -> Interval
-    ensures { interval result ≡ saturated (count_of (seen element.entry)) }
+    ensures { interval result ≡ saturated (of_card (spec.card_of (seen element.entry))) }
 {
     match element {
         ScopeNode::Segment(segment) => Interval::of(segment.card),

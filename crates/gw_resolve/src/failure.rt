@@ -1,8 +1,7 @@
 //! Failures of rules.
 ghost use Rattle.std.specs.Prelude.{◌≡◌, OnOk};
 ghost use Rattle.gw_resolve.specs.Failures.{at_line, fails};
-ghost use Rattle.gw_resolve.specs.Noted.{Notes};
-ghost use Rattle.gw_resolve.specs.Seen.{mark as seen_mark};
+ghost use Rattle.gw_resolve.specs.Seen.{Notes, mark as seen_mark};
 
 use crate::interval::Interval;
 use std::alloc::AllocError;

@@ -4,10 +4,9 @@ ghost use Rattle.gw_maplang.specs.Seen as raw;
 ghost use Rattle.gw_maplang.specs.declared.item.Item.{SegFrom, SegAlways, EachAs, EachFlat};
 ghost use Rattle.gw_profile.specs.Labels.{nodes_in};
 ghost use Rattle.gw_resolve.specs.Naming as spec;
-ghost use Rattle.gw_resolve.specs.Noted.{Notes};
 ghost use Rattle.gw_resolve.specs.Places.{within as scope_within};
-ghost use Rattle.gw_resolve.specs.Outcome.{MakesItems, MakesRules, ResolvesItem, path_failures};
-ghost use Rattle.gw_resolve.specs.Seen.{scope as walked, place as seen_place, some_condition};
+ghost use Rattle.gw_resolve.specs.Outcome.{AreMadeOf, MakesItems, ResolvesItem, path_failures};
+ghost use Rattle.gw_resolve.specs.Seen.{Notes, scope as walked, place as seen_place, rule, some_condition};
 
 use crate::element::{ScopeNode, enter, nodes_of_child};
 use crate::failure::Failure;
@@ -73,7 +72,7 @@ fn rules_walked(
 ) -> Result<Ruled, AllocError>
     ensures place { IfOk result (λ r. seen_place r.place ≡ spec.place_or (walked scope.now) (raw.path made.now.walk.path)) }
     ensures condition { IfOk result (λ r. some_condition r.condition ≡ spec.condition_within (spec.walked_if (walked scope.now) (Some (raw.walk made.now.walk))) (raw.field_condition_some made.now.walk.condition)) }
-    ensures rules { IfOk result (λ r. MakesRules (spec.walked_if (walked scope.now) (Some (raw.walk made.now.walk))) made.now.rules.items r.rules.items) }
+    ensures rules { IfOk result (λ r. AreMadeOf rule spec.rule (spec.walked_if (walked scope.now) (Some (raw.walk made.now.walk))) (map raw.rule made.now.rules.items) r.rules.items) }
     ensures failures { OnOk result (Notes paths.old paths.new (path_failures (walked scope.now) (SegFrom made.now))) }
 {
     let led = lead(

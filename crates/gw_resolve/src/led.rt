@@ -3,12 +3,11 @@ ghost use Rattle.std.specs.Prelude.{◌≡◌, IfOk, OnOk, Some};
 ghost use Rattle.gw_maplang.specs.Seen.{items_all};
 ghost use Rattle.gw_profile.specs.Labels.{nodes_in};
 ghost use Rattle.gw_profile.specs.Line.{allows};
-ghost use Rattle.gw_resolve.specs.own.Looking.{comes_often, place_there, single_steps, leads, lead_failures};
+ghost use Rattle.gw_resolve.specs.own.Looking.{place_there, single_steps, leads, lead_failures};
 ghost use Rattle.gw_resolve.specs.Naming as spec;
-ghost use Rattle.gw_resolve.specs.Noted.{Notes};
 ghost use Rattle.gw_resolve.specs.Order.{is_segment};
 ghost use Rattle.gw_resolve.specs.Places as places;
-ghost use Rattle.gw_resolve.specs.Seen.{element as seen, scope as walked, place as seen_place};
+ghost use Rattle.gw_resolve.specs.Seen.{Notes, element as seen, scope as walked, place as seen_place};
 
 use crate::element::{ScopeNode, child, element_at, nodes_of, nodes_of_child};
 use crate::failure::{Failure, at_line, note};
@@ -45,7 +44,7 @@ fn allows_two(card: Card) -> bool
 
 // Whether the node of this number may come more than once.
 fn comes_often<'a, 'p>(level: Option<&'a Level<'p>>, number: usize) -> bool
-    ensures { result ≡ comes_often (places.child (nodes_in level.entry) number) }
+    ensures { result ≡ spec.comes_often (places.child (nodes_in level.entry) number) }
 {
     match child(level, number) {
         None => false,

@@ -2,12 +2,10 @@
 ghost use Rattle.std.specs.Prelude.{◌≡◌, ◌++◌, if◌then◌else◌, is_some, not, map, flat_map, IfOk, OnOk};
 ghost use Rattle.gw_profile.specs.Seen.{forest, profile_value};
 ghost use Rattle.gw_maplang.specs.Seen as raw;
-ghost use Rattle.gw_maplang.specs.Seen.{map_value};
 ghost use Rattle.gw_resolve.specs.own.Looking.{place_there};
 ghost use Rattle.gw_resolve.specs.Naming as spec;
-ghost use Rattle.gw_resolve.specs.Noted.{Notes};
 ghost use Rattle.gw_resolve.specs.Outcome.{Resolves, ResolvesBy};
-ghost use Rattle.gw_resolve.specs.Seen.{element as seen, scope as walked, failures, left_out};
+ghost use Rattle.gw_resolve.specs.Seen.{Notes, element as seen, scope as walked, failures, left_out};
 
 use crate::element::ScopeNode;
 use crate::failure::{Failure, at_line, note};
@@ -99,7 +97,7 @@ fn resolve_in(
     target: &Level<'_>,
     map: &Map,
 ) -> Result<Resolving, AllocError>
-    ensures { IfOk result (ResolvesBy (forest source.now) (forest target.now) (map_value map.now)) }
+    ensures { IfOk result (ResolvesBy (forest source.now) (forest target.now) (raw.map_value map.now)) }
 {
     let mut lost = NameFailures {
         paths: Vec::new(alloc),
@@ -126,7 +124,7 @@ pub fn resolve(
 ) -> Result<Resolving, AllocError>
     requires source { from.now ≡ source.now.nodes }
     requires target { to.now ≡ target.now.nodes }
-    ensures { IfOk result (Resolves (profile_value source.now) (profile_value target.now) (map_value map.now)) }
+    ensures { IfOk result (Resolves (profile_value source.now) (profile_value target.now) (raw.map_value map.now)) }
 {
     resolve_in(alloc, from, to, map)
 }

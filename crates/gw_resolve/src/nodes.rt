@@ -3,13 +3,12 @@ ghost use Rattle.std.specs.Prelude.{◌≡◌, map};
 ghost use Rattle.gw_profile.specs.Seen.{forest, node_forest, field};
 ghost use Rattle.gw_profile.specs.Shapes.{nothing};
 ghost use Rattle.gw_resolve.specs.Places as places;
-ghost use Rattle.gw_resolve.specs.Places.{nodes_of_child};
 
 use gw_profile::{FieldShape, Node};
 
 // The nodes within a node.
 fn within_node(node: &Node) -> &[Node]
-    ensures { forest result.now ≡ nodes_of_child (node_forest node.now nothing) 0 }
+    ensures { forest result.now ≡ places.nodes_of_child (node_forest node.now nothing) 0 }
 {
     match node {
         Node::Seg(_) => &[],
@@ -19,7 +18,7 @@ fn within_node(node: &Node) -> &[Node]
 
 /// The nodes within the node of this number. It takes no memory.
 pub fn nodes_within(nodes: &[Node], number: usize) -> &[Node]
-    ensures { forest result.now ≡ nodes_of_child (forest nodes.now) number }
+    ensures { forest result.now ≡ places.nodes_of_child (forest nodes.now) number }
 {
     match nodes.get(number) {
         None => &[],

@@ -1,7 +1,6 @@
 //! Where the nodes stand that a map reads.
 ghost use Rattle.std.specs.Prelude.{◌≡◌, IfOk};
 ghost use Rattle.gw_resolve.specs.Positions as spec;
-ghost use Rattle.gw_resolve.specs.Positions.{positions};
 ghost use Rattle.gw_resolve.specs.Seen.{place as seen_place};
 
 use crate::resolved::ScopePath;
@@ -13,7 +12,7 @@ pub fn position(
     scope: &[Vec<usize>],
     place: &ScopePath,
 ) -> Result<Vec<usize>, AllocError>
-    ensures { IfOk result (λ p. p.items ≡ spec.position (positions scope.now) (seen_place place.now)) }
+    ensures { IfOk result (λ p. p.items ≡ spec.position (spec.positions scope.now) (seen_place place.now)) }
 {
     if place.out >= scope.len() {
         return Vec::from_slice(alloc, &place.steps);
@@ -29,7 +28,7 @@ pub fn positions_within(
     scope: &[Vec<usize>],
     place: &ScopePath,
 ) -> Result<Vec<Vec<usize>>, AllocError>
-    ensures { IfOk result (λ inner. positions inner.items ≡ spec.inner (positions scope.now) (seen_place place.now)) }
+    ensures { IfOk result (λ inner. spec.positions inner.items ≡ spec.inner (spec.positions scope.now) (seen_place place.now)) }
 {
     let at = position(alloc, scope, place)?;
     let mut inner = Vec::new(alloc);

@@ -3,10 +3,9 @@ ghost use Rattle.std.specs.Prelude.{◌≡◌, List, map, flat_map, IfOk, OnOk};
 ghost use Rattle.gw_maplang.specs.Seen as raw;
 ghost use Rattle.gw_maplang.specs.Shapes.{TableValue};
 ghost use Rattle.gw_resolve.specs.Naming as spec;
-ghost use Rattle.gw_resolve.specs.Noted.{Notes};
-ghost use Rattle.gw_resolve.specs.Outcome.{MakesOther, MakesOthers, MakesLeaf, MakesLeaves, MakesMaking, MakesRule, MakesRules};
+ghost use Rattle.gw_resolve.specs.Outcome.{IsMadeOf, AreMadeOf};
 ghost use Rattle.gw_resolve.specs.Seen as seen;
-ghost use Rattle.gw_resolve.specs.Seen.{scope as walked};
+ghost use Rattle.gw_resolve.specs.Seen.{Notes, scope as walked};
 
 use crate::element::ScopeNode;
 use crate::failure::Failure;
@@ -53,12 +52,6 @@ fn source(
     }
 }
 
-fn copy_of(alloc: Global, bytes: &[u8]) -> Result<Vec<u8>, AllocError>
-    ensures { IfOk result (λ v. v.items ≡ bytes.now) }
-{
-    Vec::from_slice(alloc, bytes)
-}
-
 fn leaf(
     alloc: Global,
     found: &mut Vec<Failure>,
@@ -66,12 +59,12 @@ fn leaf(
     line: u32,
     made: &gw_maplang::Leaf,
 ) -> Result<ResolvedLeaf, AllocError>
-    ensures made { IfOk result (λ l. (tables : List TableValue) → seen.leaf tables l ≡ spec.leaf tables (walked scope.now) (raw.leaf made.now)) }
+    ensures made { IfOk result (IsMadeOf seen.leaf spec.leaf (walked scope.now) (raw.leaf made.now)) }
     ensures failures { OnOk result (Notes found.old found.new (spec.text_failures (walked scope.now) line (raw.leaf made.now))) }
 {
     match made {
         gw_maplang::Leaf::Const(text) => {
-            let text = copy_of(alloc, text)?;
+            let text = Vec::from_slice(alloc, text)?;
             Ok(ResolvedLeaf::Const(text))
         }
         gw_maplang::Leaf::Copy(from) => {
@@ -79,7 +72,7 @@ fn leaf(
             Ok(ResolvedLeaf::Copied(from))
         }
         gw_maplang::Leaf::Lookup(name, from) => {
-            let name = copy_of(alloc, name)?;
+            let name = Vec::from_slice(alloc, name)?;
             let from = source(alloc, found, scope, line, from)?;
             Ok(ResolvedLeaf::LookedUp(name, from))
         }
@@ -96,7 +89,7 @@ fn other(
     scope: &[ScopeNode<'_, '_>],
     made: &gw_maplang::Alternative,
 ) -> Result<Alternative, AllocError>
-    ensures made { IfOk result (MakesOther (walked scope.now) made.now) }
+    ensures made { IfOk result (IsMadeOf seen.alternative spec.alternative (walked scope.now) (raw.alternative made.now)) }
     ensures failures { OnOk result (Notes found.old found.new (spec.other_failures (walked scope.now) (raw.alternative made.now))) }
 {
     let leaf = leaf(alloc, found, scope, made.line, &made.leaf)?;
@@ -112,7 +105,7 @@ fn others(
     scope: &[ScopeNode<'_, '_>],
     all: &[gw_maplang::Alternative],
 ) -> Result<Vec<Alternative>, AllocError>
-    ensures made { IfOk result (λ v. MakesOthers (walked scope.now) all.now v.items) }
+    ensures made { IfOk result (λ v. AreMadeOf seen.alternative spec.alternative (walked scope.now) (map raw.alternative all.now) v.items) }
     ensures failures { OnOk result (Notes found.old found.new (flat_map (spec.other_failures (walked scope.now)) (map raw.alternative all.now))) }
 {
     let mut built = Vec::new(alloc);
@@ -129,7 +122,7 @@ fn at_leaf(
     scope: &[ScopeNode<'_, '_>],
     made: &LeafRule,
 ) -> Result<At, AllocError>
-    ensures made { IfOk result (MakesLeaf (walked scope.now) made.now) }
+    ensures made { IfOk result (IsMadeOf seen.at_leaf spec.at_leaf (walked scope.now) (raw.leaf_value made.now)) }
     ensures failures { OnOk result (Notes found.old found.new (spec.leaf_failures (walked scope.now) (raw.leaf_value made.now))) }
 {
     let leaf = leaf(alloc, found, scope, made.line, &made.leaf)?;
@@ -148,7 +141,7 @@ fn leaves(
     scope: &[ScopeNode<'_, '_>],
     all: &[LeafRule],
 ) -> Result<Vec<At>, AllocError>
-    ensures made { IfOk result (λ v. MakesLeaves (walked scope.now) all.now v.items) }
+    ensures made { IfOk result (λ v. AreMadeOf seen.at_leaf spec.at_leaf (walked scope.now) (map raw.leaf_value all.now) v.items) }
     ensures failures { OnOk result (Notes found.old found.new (flat_map (spec.leaf_failures (walked scope.now)) (map raw.leaf_value all.now))) }
 {
     let mut built = Vec::new(alloc);
@@ -164,7 +157,7 @@ fn texts_of(alloc: Global, all: &[Vec<u8>]) -> Result<Vec<Vec<u8>>, AllocError>
 {
     let mut copies = Vec::new(alloc);
     for text in all {
-        let copy = copy_of(alloc, text)?;
+        let copy = Vec::from_slice(alloc, text)?;
         copies.push(copy)?;
     }
     Ok(copies)
@@ -219,7 +212,7 @@ fn making(
     scope: &[ScopeNode<'_, '_>],
     made: &gw_maplang::Rule,
 ) -> Result<Making, AllocError>
-    ensures made { IfOk result (MakesMaking (walked scope.now) made.now) }
+    ensures made { IfOk result (IsMadeOf seen.making spec.making (walked scope.now) (raw.rule made.now).making) }
     ensures failures { OnOk result (Notes found.old found.new (spec.rule_failures (walked scope.now) (raw.rule made.now))) }
 {
     match made {
@@ -251,7 +244,7 @@ fn rule(
     scope: &[ScopeNode<'_, '_>],
     made: &gw_maplang::Rule,
 ) -> Result<Rule, AllocError>
-    ensures made { IfOk result (MakesRule (walked scope.now) made.now) }
+    ensures made { IfOk result (IsMadeOf seen.rule spec.rule (walked scope.now) (raw.rule made.now)) }
     ensures failures { OnOk result (Notes found.old found.new (spec.rule_failures (walked scope.now) (raw.rule made.now))) }
 {
     let making = making(alloc, found, scope, made)?;
@@ -269,7 +262,7 @@ pub(crate) fn rules(
     scope: &[ScopeNode<'_, '_>],
     all: &[gw_maplang::Rule],
 ) -> Result<Vec<Rule>, AllocError>
-    ensures made { IfOk result (λ v. MakesRules (walked scope.now) all.now v.items) }
+    ensures made { IfOk result (λ v. AreMadeOf seen.rule spec.rule (walked scope.now) (map raw.rule all.now) v.items) }
     ensures failures { OnOk result (Notes found.old found.new (flat_map (spec.rule_failures (walked scope.now)) (map raw.rule all.now))) }
 {
     let mut built = Vec::new(alloc);

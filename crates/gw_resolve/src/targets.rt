@@ -1,15 +1,14 @@
 //! The target nodes of items, and whether they are in order (3).
-ghost use Rattle.std.specs.Prelude.{◌≡◌, ◌++◌, not, nat_lt, slice_get, bytes_eq, unwrap_or, option_map, option_and_then, IfOk, OnOk};
+ghost use Rattle.std.specs.Prelude.{◌≡◌, ◌++◌, not, nat_lt, slice_get, bytes_eq, option_map, option_and_then, IfOk, OnOk};
 ghost use Rattle.std.specs.List.{list_all};
 ghost use Rattle.gw_maplang.specs.Seen.{now, with_item, all_items};
 ghost use Rattle.gw_maplang.specs.Shapes.{nothing};
 ghost use Rattle.gw_profile.specs.Labels.{nodes_in};
 ghost use Rattle.gw_resolve.specs.Failures.{at_line, fails};
 ghost use Rattle.gw_resolve.specs.Naming as spec;
-ghost use Rattle.gw_resolve.specs.Noted.{Notes};
 ghost use Rattle.gw_resolve.specs.own.Looking.{is_kind};
 ghost use Rattle.gw_resolve.specs.Places as places;
-ghost use Rattle.gw_resolve.specs.Seen.{element as seen};
+ghost use Rattle.gw_resolve.specs.Seen.{Notes, element as seen};
 
 use crate::element::{ScopeNode, child};
 use crate::failure::{Failure, at_line, note};
@@ -107,16 +106,6 @@ pub(crate) struct TargetNode {
     pub(crate) node: usize,
 }
 
-// The number, j where there is none.
-fn number_or(j: usize, number: Option<usize>) -> usize
-    ensures { result ≡ unwrap_or number j }
-{
-    match number {
-        None => j,
-        Some(number) => number,
-    }
-}
-
 fn child_if<'a, 'p>(
     level: Option<&'a Level<'p>>,
     number: Option<usize>,
@@ -168,11 +157,11 @@ pub(crate) fn label_target(
     ensures node { IfOk result (λ a. a.node ≡ spec.node_or j (nodes_in level.entry) label.now) }
 {
     let number = labelled(level, label);
-    let node = number_or(j, number);
+    let node = number.unwrap_or(j);
     let fits = is_kind(kind, child_if(level, number));
     note_target(found, line, fits, j, node)?;
     Ok(TargetNode {
-        child: number_or(0, number),
+        child: number.unwrap_or(0),
         node,
     })
 }
@@ -188,7 +177,7 @@ pub(crate) fn flat_target(
     ensures failures { OnOk result (Notes found.old found.new (spec.flat_failures (nodes_in level.entry) j line (spec.labels (all_items items.now)))) }
     ensures node { IfOk result (λ node. node ≡ spec.node_or j (nodes_in level.entry) (spec.first_or (spec.labels (all_items items.now)))) }
 {
-    let node = number_or(j, labelled(level, first_or(items)));
+    let node = labelled(level, first_or(items)).unwrap_or(j);
     note_target(found, line, are_one(items), j, node)?;
     Ok(node)
 }

@@ -1,15 +1,13 @@
 -- Parts of the looking up of labels.
-use Rattle.std.specs.Prelude.{◌≡◌, ℕ, ◌+◌, Bool, false, not, if◌then◌else◌, List, [], ◌∷◌, ◌++◌, Option, Some, None, option_map}
+use Rattle.std.specs.Prelude.{◌≡◌, ℕ, ◌+◌, Bool, not, if◌then◌else◌, List, [], ◌∷◌, ◌++◌, Option, Some, None, option_map}
 use Rattle.std.specs.Global.{Vec}
-use Rattle.gw_profile.specs.Line.{allows}
 use Rattle.gw_profile.specs.Shapes.{Forest}
 use Rattle.gw_maplang.specs.Shapes.{Path, Walk, Items}
-use Rattle.gw_resolve.specs.Founds.{found_value, saturated_found, times_element}
-use Rattle.gw_resolve.specs.Places.{Element, a_segment, a_group, the_whole, nodes_of, Place, Found, found, element_of, within}
+use Rattle.gw_resolve.specs.Places.{Element, nodes_of, Place, Found, card_of, times, found, element_of, within}
 use denote.Ref.{Bor}
 use Rattle.gw_resolve.specs.declared.element.CountedNode.{CountedNode as TheFound}
 use Rattle.gw_resolve.specs.declared.resolved.ScopePath as places
-use Rattle.gw_resolve.specs.Seen.{place}
+use Rattle.gw_resolve.specs.Seen.{place, found_value, saturated_found}
 use Rattle.gw_profile.specs.Labels.{labelled}
 use Rattle.gw_resolve.specs.Failures.{Failure, at_line, fails, where_so}
 use Rattle.gw_resolve.specs.Order.{is_segment, is_group}
@@ -31,13 +29,6 @@ begun e label = or_else (option_map inwards (labelled (nodes_of e) label)) (if h
 -- where the labels lead from this place
 abbrev pub onwards : List Element → Path → Place → Option Place
 onwards scope labels p = option_map (λ steps. record p { steps = p.steps ++ steps }) (steps_of (nodes_of (element_of (found scope p))) labels)
-
--- whether it may come more than once
-abbrev pub comes_often : Option Element → Bool
-comes_often None = false
-comes_often (Some (a_segment s)) = allows s.card.max 2
-comes_often (Some (a_group g nodes)) = allows g.card.max 2
-comes_often (Some (the_whole nodes)) = false
 
 abbrev pub place_there : Option (Bor places.ScopePath) → Option Place
 place_there p = option_map (λ (b : Bor places.ScopePath). place b.now) p
@@ -72,7 +63,7 @@ is_kind kinds.TheVariants.Group = is_group
 
 -- What is counted is what was counted below, times the element's own count.
 abbrev pub IsTimes : Element → Option TheFound → Option TheFound → Type 0
-IsTimes e below result = (f : Option Found) → found_value below ≡ saturated_found f → found_value result ≡ saturated_found (times_element e f)
+IsTimes e below result = (f : Option Found) → found_value below ≡ saturated_found f → found_value result ≡ saturated_found (times (card_of e) f)
 
 -- These are the steps to which the labels lead from the nodes, behind those.
 abbrev pub AreStepsBehind : List ℕ → Forest → Path → Option (Vec ℕ) → Type 0

@@ -1,7 +1,6 @@
 use Rattle.std.proofs.Common.{sym, ap, ◌∙◌, option_map}
 use Rattle.gw_resolve.specs.Places as spec
-use Rattle.gw_resolve.specs.Seen.{element as seen}
-use Rattle.gw_resolve.specs.Founds.{saturated_found}
+use Rattle.gw_resolve.specs.Seen.{element as seen, saturated_found}
 use Rattle.gw_resolve.proofs.Finding.{below_there, below_missing}
 use Rattle.gw_resolve.proofs.element.+below.Goals as goal
 

@@ -1,7 +1,6 @@
 use Rattle.std.proofs.Common.{sym, ap, ◌∙◌}
 use Rattle.gw_resolve.specs.Places.{found, element_of}
-use Rattle.gw_resolve.specs.Seen.{scope, place}
-use Rattle.gw_resolve.specs.Founds.{found_value}
+use Rattle.gw_resolve.specs.Seen.{scope, place, found_value}
 use Rattle.gw_resolve.proofs.Finding.{same_element}
 use Rattle.gw_resolve.proofs.element.element_at.Goals as goal
 

@@ -1,8 +1,7 @@
 use Rattle.std.proofs.Common.{sym, ap, ◌∙◌, subst, map, ◌≤◌}
 use Rattle.std.proofs.lemmas.List.{length-map}
 use Rattle.gw_resolve.specs.Places as spec
-use Rattle.gw_resolve.specs.Seen.{element as seen}
-use Rattle.gw_resolve.specs.Founds.{saturated_found}
+use Rattle.gw_resolve.specs.Seen.{element as seen, saturated_found}
 use Rattle.gw_resolve.proofs.Finding.{out_of_scope, found_among}
 use Rattle.gw_resolve.proofs.element.find.Goals as goal
 

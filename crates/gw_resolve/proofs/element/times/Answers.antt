@@ -1,6 +1,5 @@
 use Rattle.std.proofs.Common.{sym, ap, ◌∙◌}
-use Rattle.gw_resolve.specs.Seen.{element as seen, interval}
-use Rattle.gw_resolve.specs.Founds.{found_value}
+use Rattle.gw_resolve.specs.Seen.{element as seen, interval, found_value}
 use Rattle.gw_resolve.proofs.Finding.{times_found}
 use Rattle.gw_resolve.proofs.element.times.Goals as goal
 

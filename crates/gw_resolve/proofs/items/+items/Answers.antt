@@ -6,8 +6,8 @@ use Rattle.gw_profile.specs.Labels.{nodes_in}
 use Rattle.gw_resolve.specs.Naming as spec
 use Rattle.gw_resolve.specs.Seen.{scope as walked}
 use Rattle.gw_resolve.proofs.Built.{items_made, items_done, made_group, made_flat}
-use Rattle.gw_resolve.proofs.Noting.{noted_twice, unled_noted, later_noted, walked_paths, items_next, paths_done}
-use Rattle.gw_resolve.proofs.Targeting.{targets_next, group_targets, flat_targets, group_reached, flat_reached, targets_done}
+use Rattle.gw_resolve.proofs.Noting.{noted_twice, unled_noted, later_noted, walked_paths, items_next}
+use Rattle.gw_resolve.proofs.Targeting.{targets_next, group_targets, flat_targets, group_reached, flat_reached}
 use Rattle.gw_resolve.proofs.items.+items.Goals as goal
 
 -- ---- a group
@@ -77,9 +77,3 @@ resolve_items-loop-item-preserved t c = record {
 
 pub resolve_items-returns-clause-items : goal.resolve_items-returns-clause-items
 resolve_items-returns-clause-items t c = λ tables. items_done tables _ _ _ _ _ _ c.loop-item-test.false (c.loop-item.invariant.items tables)
-
-pub resolve_items-returns-clause-paths : goal.resolve_items-returns-clause-paths
-resolve_items-returns-clause-paths t c = paths_done _ _ _ _ _ c.loop-item-test.false c.loop-item.invariant.paths
-
-pub resolve_items-returns-clause-targets : goal.resolve_items-returns-clause-targets
-resolve_items-returns-clause-targets t c = targets_done _ _ _ _ _ _ c.loop-item-test.false c.loop-item.invariant.targets
