@@ -5,7 +5,7 @@ use Rattle.std.specs.List.{list_any}
 use Rattle.std.specs.Map.{lookup}
 use Rattle.std.specs.Global.{Vec}
 use Rattle.std.specs.Option.{option_eq}
-use Rattle.std.proofs.Math.Bool.{and-true}
+use Rattle.std.proofs.Math.Bool.{and-true, or-false}
 use Rattle.std.proofs.lemmas.Bool.{eqb-true}
 use Rattle.std.proofs.lemmas.Bool.Decides.{nat_tests}
 use Rattle.std.proofs.lemmas.List.Folds.{list_any-append, list_any_more}
@@ -21,7 +21,6 @@ use Rattle.gw_profile.specs.Value.{table_of as table_in}
 use Rattle.gw_profile.proofs.Facts.{both}
 use Rattle.gw_maplang.specs.Seen.{now}
 use Rattle.gw_maplang.specs.Shapes as maps
-use Rattle.gw_maplang.specs.Shapes.{Rows, Row, second_of}
 use Rattle.gw_resolve.specs.Naming.{no_rows}
 use Rattle.gw_leaves.specs.declared.given.LeafSource.{LeafSource}
 use Rattle.gw_leaves.specs.Components.{table_values}
@@ -30,7 +29,7 @@ use Rattle.gw_leaves.specs.Leaves.{listed, is_short, given, sub_values, has_no_r
 use Rattle.gw_leaves.specs.Texts.{is_there, items_all}
 use Rattle.gw_leaves.specs.own.Held.{given_texts}
 use Rattle.gw_leaves.specs.own.Comparisons.{table_texts, values_named, rows_named, rowed, table_of, len_of, some_unrowed, is_unrowed, Origin, is_any, texts_in, given_at, given_by, fits, exceeds, is_outside, is_outside_named, holds_of, Lengths, size_of, some_length, Adds, AreOfValues, AreOfRows, some_values, AreCompared, Comparison, names_eq, comparisons_eq, IsCompared, AreKept}
-use Rattle.gw_leaves.proofs.Inserted.{any_map, inserted, or_none}
+use Rattle.gw_leaves.proofs.Inserted.{any_map, inserted}
 
 -- of a slice of texts
 over_items : (test : List ℕ → Bool) (texts : List (Vec ℕ)) (all : List (List ℕ)) → items_all texts ≡ all → list_any (λ (v : Vec ℕ). test v.items) texts ≡ list_any test all
@@ -65,7 +64,7 @@ module _ (to : Count) (values : List (List ℕ)) where
           ap₂ (λ m n. fits len m && exceeds most n) (eqb-true size x.0 p.0) (eqb-true (measure to text) x.1 p.1)
 
   -- one text more
-  pub more_values : (count : Option Count) (rows : Option Rows) (texts : List (Vec ℕ)) (i : ℕ) (x : Vec ℕ) (old new : Lengths) → i < length texts → x ≡ get_or texts i x
+  pub more_values : (count : Option Count) (rows : Option maps.Rows) (texts : List (Vec ℕ)) (i : ℕ) (x : Vec ℕ) (old new : Lengths) → i < length texts → x ≡ get_or texts i x
       → Adds to values old new (size_of count x.items) (given_by rows x.items) → AreOfValues count to values rows (take i texts) old → AreOfValues count to values rows (take (i + 1) texts) new
   more_values count rows texts i x old new low at adds h len most =
       let test : Vec ℕ → Bool = λ v. fits len (size_of count v.items) && holds_of (is_outside to values most) (given_by rows v.items) in
@@ -79,7 +78,7 @@ module _ (to : Count) (values : List (List ℕ)) where
   fits_none None = refl
   fits_none (Some most) = grind (arith, nat_tests)
 
-  pub all_rows : (rows : Rows) (texts : List (Vec ℕ)) (old new : Lengths) → items_all texts ≡ map (λ (r : Row). r.second) rows.rows
+  pub all_rows : (rows : maps.Rows) (texts : List (Vec ℕ)) (old new : Lengths) → items_all texts ≡ map (λ (r : maps.Row). r.second) rows.rows
       → Adds to values old new 0 rows.other → AreOfValues None to values None texts old → AreOfRows to values rows new
   all_rows rows texts old new e adds h len most =
       let p = is_outside to values most in
@@ -87,8 +86,8 @@ module _ (to : Count) (values : List (List ℕ)) where
       ∙ ap (λ b. some_length len most old || (b && holds_of p rows.other)) (fits_none len)
       ∙ ap (λ b. b || holds_of p rows.other) (h len most
       ∙ ap (λ b. list_any (λ (v : Vec ℕ). b && p v.items) texts) (fits_none len)
-      ∙ over_items p texts (map (λ (r : Row). r.second) rows.rows) e
-      ∙ any_map (λ (r : Row). r.second) p rows.rows)
+      ∙ over_items p texts (map (λ (r : maps.Row). r.second) rows.rows) e
+      ∙ any_map (λ (r : maps.Row). r.second) p rows.rows)
 
 -- ---- lists that are passed through
 
@@ -114,7 +113,7 @@ any_filter_map p g (x ∷ xs) = with (g x) refl (any_filter_map p g xs)
 
 any_one : (p : List ℕ → Bool) (o : Option (List ℕ)) → list_any p (option_to_list o) ≡ holds_of p o
 any_one p None = refl
-any_one p (Some t) = or_none (p t)
+any_one p (Some t) = or-false (p t)
 
 none_given : (p : List ℕ → Bool) (texts : List (List ℕ)) → list_any p (filter_map (given no_rows) texts) ≡ false
 none_given p [] = refl
@@ -131,7 +130,7 @@ module _ (s : ContextValue) (name : Option (List ℕ)) where
 
   -- where the rows aren't there
   pub no_table : (rows : List ℕ) (table : Option (List ℕ)) → rows_named s.map.tables rows ≡ no_rows → AreCompared s (Some rows) table name []
-  no_table rows None e len most = sym (ap (λ r. list_any (is_outside_named s name most) (map (λ (q : Row). q.second) r.rows ++ option_to_list r.other)) e)
+  no_table rows None e len most = sym (ap (λ r. list_any (is_outside_named s name most) (map (λ (q : maps.Row). q.second) r.rows ++ option_to_list r.other)) e)
   no_table rows (Some table) e len most =
       sym (ap (λ r. list_any (is_outside_named s name most) (filter_map (given r) (texts_in (table_texts (profile_value s.source) (Some table) len)))) e
       ∙ none_given (is_outside_named s name most) (texts_in (table_texts (profile_value s.source) (Some table) len)))
@@ -158,15 +157,15 @@ module _ (s : ContextValue) (name : Option (List ℕ)) where
       let r = rows_named s.map.tables rows in
       let p = is_outside_named s name most in
       h len most
-      ∙ sym (list_any-append p (map (λ (q : Row). q.second) r.rows) (option_to_list r.other)
-      ∙ ap₂ (λ a b. a || b) (any_map (λ (q : Row). q.second) p r.rows) (any_one p r.other))
+      ∙ sym (list_any-append p (map (λ (q : maps.Row). q.second) r.rows) (option_to_list r.other)
+      ∙ ap₂ (λ a b. a || b) (any_map (λ (q : maps.Row). q.second) p r.rows) (any_one p r.other))
 
 -- as the program's parts say it
 module _ (s : ContextValue) (c : Comparison) (to : Count) (there : Option (Bor (List (List ℕ)))) (target : to ≡ s.target.count) (asked : option_copied there ≡ option_and_then (λ n. table_in n s.target.tables) (now c.1)) where
   at : (rows table : Option (Bor (List ℕ))) (lengths : Lengths) → c.0.0 ≡ rows → c.0.1 ≡ table → AreCompared s (now rows) (now table) (now c.1) lengths → IsCompared s c lengths
   at rows table lengths e f h len most = h len most ∙ (λ i. list_any (is_outside_named s (now c.1) most) (given_at s (now (sym e i)) (now (sym f i)) len))
 
-  over : (count : Count) (rows rest : Option Rows) (texts : List (Vec ℕ)) (lengths : Lengths) → count ≡ s.source.count → rows ≡ rest → AreOfValues (Some count) to (some_values there) rows texts lengths
+  over : (count : Count) (rows rest : Option maps.Rows) (texts : List (Vec ℕ)) (lengths : Lengths) → count ≡ s.source.count → rows ≡ rest → AreOfValues (Some count) to (some_values there) rows texts lengths
       → AreOfValues (Some s.source.count) s.target.count (values_named s.target.tables (now c.1)) rest texts lengths
   over count rows rest texts lengths e f h len most =
       h len most ∙ (λ i. list_any (λ (v : Vec ℕ). fits len (measure (e i) v.items) && holds_of (is_outside (target i) (unwrap_or (asked i) []) most) (given_by (f i) v.items)) texts)
@@ -177,7 +176,7 @@ module _ (s : ContextValue) (c : Comparison) (to : Count) (there : Option (Bor (
   of_source count table texts (Ok l) e none some is h = at None (Some table) l.keys none some (values_compared s (now c.1) table.now texts l.keys is (over count None None texts l.keys e refl h))
 
   module _ (name : Bor (List ℕ)) (looked : c.0.0 ≡ Some name) where
-    pub of_lookups : {S E : Type 0} (count : Count) (rows : Rows) (table : Bor (List ℕ)) (texts : List (Vec ℕ)) (made : Result (IndexSet (ℕ × ℕ) S) E) → count ≡ s.source.count
+    pub of_lookups : {S E : Type 0} (count : Count) (rows : maps.Rows) (table : Bor (List ℕ)) (texts : List (Vec ℕ)) (made : Result (IndexSet (ℕ × ℕ) S) E) → count ≡ s.source.count
         → Some rows ≡ maps.table_of name.now s.map.tables → c.0.1 ≡ Some table → items_all texts ≡ values_named s.source.tables (Some table.now)
         → IfOk made (λ l. AreOfValues (Some count) to (some_values there) (Some rows) texts l.keys) → IfOk made (λ l. IsCompared s c l.keys)
     of_lookups count rows table texts (Err x) e found some is h = tt
@@ -185,12 +184,12 @@ module _ (s : ContextValue) (c : Comparison) (to : Count) (there : Option (Bor (
         at (Some name) (Some table) l.keys looked some (lookups_compared s (now c.1) name.now table.now texts l.keys is
         (over count (Some rows) (Some (rows_named s.map.tables name.now)) texts l.keys e (ap (λ o. Some (unwrap_or o no_rows)) found) h))
 
-    pub of_all : {S E : Type 0} (rows : Rows) (made : Result (IndexSet (ℕ × ℕ) S) E) → Some rows ≡ maps.table_of name.now s.map.tables → c.0.1 ≡ None
+    pub of_all : {S E : Type 0} (rows : maps.Rows) (made : Result (IndexSet (ℕ × ℕ) S) E) → Some rows ≡ maps.table_of name.now s.map.tables → c.0.1 ≡ None
         → IfOk made (λ l. AreOfRows to (some_values there) rows l.keys) → IfOk made (λ l. IsCompared s c l.keys)
     of_all rows (Err x) found none h = tt
     of_all rows (Ok l) found none h =
         at (Some name) None l.keys looked none (rows_compared s (now c.1) name.now l.keys (λ len most. h len most
-        ∙ (λ i. list_any (λ (r : Row). is_outside (target i) (unwrap_or (asked i) []) most r.second) (unwrap_or (found i) no_rows).rows
+        ∙ (λ i. list_any (λ (r : maps.Row). is_outside (target i) (unwrap_or (asked i) []) most r.second) (unwrap_or (found i) no_rows).rows
         || holds_of (is_outside (target i) (unwrap_or (asked i) []) most) (unwrap_or (found i) no_rows).other)))
 
     pub of_none : None ≡ maps.table_of name.now s.map.tables → IsCompared s c []
@@ -261,16 +260,16 @@ module _ (s : ContextValue) where
 
 -- ---- texts without a row
 
-no_row_is : (table : Rows) (texts : List (List ℕ)) → has_no_row table (listed texts) ≡ list_any (λ text. not (is_there (second_of text table.rows))) texts
+no_row_is : (table : maps.Rows) (texts : List (List ℕ)) → has_no_row table (listed texts) ≡ list_any (λ text. not (is_there (maps.second_of text table.rows))) texts
 no_row_is table [] = refl
-no_row_is table (x ∷ xs) = with (second_of x table.rows) refl (no_row_is table xs)
+no_row_is table (x ∷ xs) = with (maps.second_of x table.rows) refl (no_row_is table xs)
   where
-    with : (o : Option (List ℕ)) → second_of x table.rows ≡ o → has_no_row table (listed xs) ≡ list_any (λ text. not (is_there (second_of text table.rows))) xs
-        → has_no_row table (listed (x ∷ xs)) ≡ list_any (λ text. not (is_there (second_of text table.rows))) (x ∷ xs)
+    with : (o : Option (List ℕ)) → maps.second_of x table.rows ≡ o → has_no_row table (listed xs) ≡ list_any (λ text. not (is_there (maps.second_of text table.rows))) xs
+        → has_no_row table (listed (x ∷ xs)) ≡ list_any (λ text. not (is_there (maps.second_of text table.rows))) (x ∷ xs)
     with None e more = rw e refl
     with (Some t) e more = rw e more
 
-module _ (profile : ProfileValue) (rows : Rows) (sub : Option SubValue) where
+module _ (profile : ProfileValue) (rows : maps.Rows) (sub : Option SubValue) where
   pub any_unrowed : table_of sub ≡ None → is_there rows.other ≡ false → true ≡ is_unrowed rows (sub_values profile sub)
   any_unrowed e other =
       ap not (sym other) ∙ sym (and-true (not (is_there rows.other)))
@@ -280,8 +279,8 @@ module _ (profile : ProfileValue) (rows : Rows) (sub : Option SubValue) where
       → some_unrowed (len_count profile) len rows texts ≡ is_unrowed rows (sub_values profile sub)
   listed_unrowed table len texts e short other is =
       let all = values_named profile.tables (Some table) in
-      over_items (λ t. fits len (measure (len_count profile) t) && not (is_there (second_of t rows.rows))) texts all is
-      ∙ short_any (λ t. not (is_there (second_of t rows.rows))) (len_count profile) len all
+      over_items (λ t. fits len (measure (len_count profile) t) && not (is_there (maps.second_of t rows.rows))) texts all is
+      ∙ short_any (λ t. not (is_there (maps.second_of t rows.rows))) (len_count profile) len all
       ∙ sym (no_row_is rows (filter (is_short (len_count profile) len) all))
       ∙ ap (λ v. has_no_row rows v) (ap (table_texts profile (Some table)) short ∙ sym (sub_texts profile sub ∙ ap (λ t. table_texts profile t (len_of sub)) e))
       ∙ ap (λ b. not b && has_no_row rows (sub_values profile sub)) (sym other)

@@ -1,4 +1,3 @@
-pub mod Each
 pub mod Inserted
 pub mod Comparing
 pub mod Presences

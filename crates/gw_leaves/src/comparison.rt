@@ -6,7 +6,6 @@ ghost use Rattle.gw_maplang.specs.Seen.{now};
 ghost use Rattle.gw_leaves.specs.Context.{context_of};
 ghost use Rattle.gw_leaves.specs.Texts.{items_all};
 ghost use Rattle.gw_leaves.specs.own.Comparisons as spec;
-ghost use Rattle.gw_leaves.specs.own.Comparisons.{some_values, given_by, Adds, AreOfValues, AreOfRows, IsCompared};
 
 use crate::leaf::table_named;
 use gw_maplang::{Map, Table as Rows};
@@ -66,7 +65,7 @@ pub fn values_of<'a>(source: &'a Profile, name: &[u8]) -> &'a [Vec<u8>]
 }
 
 fn is_listed(table: Option<&Table>, text: &[u8]) -> bool
-    ensures { result ≡ is_among text.now (some_values table.entry) }
+    ensures { result ≡ is_among text.now (spec.some_values table.entry) }
 {
     match table {
         None => false,
@@ -85,7 +84,7 @@ fn size_of(count: Option<Count>, text: &[u8]) -> u64
 
 // A text as it is, or what the rows give for it.
 fn given<'a>(rows: Option<&'a Rows>, text: &'a [u8]) -> Option<&'a [u8]>
-    ensures { now result ≡ given_by (option_copied rows.entry) text.now }
+    ensures { now result ≡ spec.given_by (option_copied rows.entry) text.now }
 {
     let Some(rows) = rows else {
         return Some(text);
@@ -104,7 +103,7 @@ fn add(
     size: u64,
     text: Option<&[u8]>,
 ) -> Result<(), AllocError>
-    ensures { OnOk result (Adds to (some_values table.entry) lengths.old.keys lengths.new.keys size (now text.entry)) }
+    ensures { OnOk result (spec.Adds to (spec.some_values table.entry) lengths.old.keys lengths.new.keys size (now text.entry)) }
 {
     let Some(text) = text else {
         return Ok(());
@@ -125,7 +124,7 @@ fn of_values(
     rows: Option<&Rows>,
     texts: &[Vec<u8>],
 ) -> Result<Lengths, AllocError>
-    ensures { IfOk result (λ made. AreOfValues count to (some_values table.entry) (option_copied rows.entry) texts.now made.keys) }
+    ensures { IfOk result (λ made. spec.AreOfValues count to (spec.some_values table.entry) (option_copied rows.entry) texts.now made.keys) }
 {
     let mut made = IndexSet::new(alloc);
     for text in texts {
@@ -154,7 +153,7 @@ fn of_rows(
     table: Option<&Table>,
     rows: &Rows,
 ) -> Result<Lengths, AllocError>
-    ensures { IfOk result (λ made. AreOfRows to (some_values table.entry) rows.now made.keys) }
+    ensures { IfOk result (λ made. spec.AreOfRows to (spec.some_values table.entry) rows.now made.keys) }
 {
     let mut made = of_values(alloc, None, to, table, None, seconds_of(rows))?;
     add(&mut made, to, table, 0, rows.other())?;
@@ -169,7 +168,7 @@ pub(crate) fn compare(
     map: &Map,
     comparison: Comparison<'_>,
 ) -> Result<Lengths, AllocError>
-    ensures { IfOk result (λ made. IsCompared (context_of source.now target.now map.now) comparison.entry made.keys) }
+    ensures { IfOk result (λ made. spec.IsCompared (context_of source.now target.now map.now) comparison.entry made.keys) }
 {
     let ((rows, listed), name) = comparison;
     let (count, to) = (Some(source.count()), target.count());

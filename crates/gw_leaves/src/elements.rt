@@ -1,7 +1,7 @@
 //! What the components and subcomponents of a target field ask of what a rule makes of it.
 ghost use Rattle.std.specs.Prelude.{map, flat_map, OnOk};
 ghost use Rattle.gw_profile.specs.Seen.{sub as sub_value, comp as comp_value};
-ghost use Rattle.gw_resolve.specs.Noted.{Notes};
+ghost use Rattle.gw_resolve.specs.Seen.{Notes};
 ghost use Rattle.gw_leaves.specs.own.Seen as seen;
 
 use crate::given::LeafSource;

@@ -8,7 +8,6 @@ ghost use Rattle.gw_leaves.specs.Components.{table_values};
 ghost use Rattle.gw_leaves.specs.Leaves as leaves;
 ghost use Rattle.gw_leaves.specs.Texts.{is_there, rows_value};
 ghost use Rattle.gw_leaves.specs.own.Comparisons as spec;
-ghost use Rattle.gw_leaves.specs.own.Comparisons.{rows_named};
 ghost use Rattle.gw_leaves.specs.own.Held.{given_texts, source_values};
 
 use crate::comparison::{Origin, fits, values_of};
@@ -137,7 +136,7 @@ fn has_other(rows: Option<&Rows>) -> bool
 
 /// Whether a text of this subcomponent may have no row in the table of this name, and nothing stands for it.
 pub(crate) fn is_unrowed(context: &MapContext<'_>, name: &[u8], sub: Option<&SubShape>) -> bool
-    ensures { result ≡ spec.is_unrowed (rows_named context.now.map.tables name.now) (source_values context.now sub.entry) }
+    ensures { result ≡ spec.is_unrowed (spec.rows_named context.now.map.tables name.now) (source_values context.now sub.entry) }
 {
     let rows = context.map().table(name);
     if has_other(rows) {

@@ -1,14 +1,13 @@
 //! The segments at the places of a map, and their fields.
 ghost use Rattle.std.specs.Prelude.{◌≡◌, map, List, [], Some, None};
 ghost use Rattle.gw_profile.specs.Seen.{field};
-ghost use Rattle.gw_resolve.specs.Founds.{found_value};
 ghost use Rattle.gw_leaves.specs.Leaves as spec;
 ghost use Rattle.gw_resolve.specs.Places as places;
 ghost use Rattle.gw_leaves.specs.own.Held.{known_value, saturated_known};
 ghost use Rattle.gw_profile.specs.Numbered.{some_field};
 ghost use Rattle.gw_leaves.specs.Uses.{sources_value, some_rule};
 ghost use Rattle.gw_resolve.specs.Resolved as resolved;
-ghost use Rattle.gw_resolve.specs.Seen.{scope as walked, place as seen_place, reference, rule as seen_rule};
+ghost use Rattle.gw_resolve.specs.Seen.{found_value, scope as walked, place as seen_place, reference, rule as seen_rule};
 ghost use Rattle.gw_maplang.specs.Shapes.{TableValue};
 
 use crate::sources::Sources;

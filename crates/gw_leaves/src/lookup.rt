@@ -1,10 +1,9 @@
 //! The rule on lookups: without a value for texts that have no row, each text of the source needs one.
 ghost use Rattle.std.specs.Prelude.{flat_map, OnOk};
 ghost use Rattle.gw_leaves.specs.Components as spec;
-ghost use Rattle.gw_resolve.specs.Noted.{Notes};
 ghost use Rattle.gw_leaves.specs.own.Held.{leaves_value, others_value};
 ghost use Rattle.gw_leaves.specs.Uses.{sources_value, map_tables, rules_value};
-ghost use Rattle.gw_resolve.specs.Seen.{alternative, at_leaf, leaf as seen_leaf, mark as seen_mark, rule as seen_rule};
+ghost use Rattle.gw_resolve.specs.Seen.{Notes, alternative, at_leaf, leaf as seen_leaf, mark as seen_mark, rule as seen_rule};
 
 use crate::count::walking;
 use crate::given::is_unrowed;
@@ -95,8 +94,7 @@ fn check_rule(
     ensures { OnOk result (Notes found.old found.new (spec.rule_lookups (sources_value sources.entry) (seen_rule (map_tables sources.entry) rule.now))) }
 {
     match &rule.making {
-        Making::Copy(_) => Ok(()),
-        Making::First(_, _) => Ok(()),
+        Making::Copy(_) | Making::First(_, _) => Ok(()),
         Making::Repeat(from, _, leaves) => check_leaves(
             found,
             walking(sources, from),

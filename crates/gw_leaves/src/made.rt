@@ -3,11 +3,10 @@ ghost use Rattle.std.specs.Prelude.{◌≡◌, ◌∷◌, [], flat_map, OnOk};
 ghost use Rattle.gw_validate.specs.Breaches.{is_null};
 ghost use Rattle.gw_leaves.specs.Components as spec;
 ghost use Rattle.gw_leaves.specs.Leaves as leaves_spec;
-ghost use Rattle.gw_resolve.specs.Noted.{Notes};
 ghost use Rattle.gw_leaves.specs.own.Held.{leaves_value, others_value};
 ghost use Rattle.gw_profile.specs.Numbered.{some_comp, some_sub};
 ghost use Rattle.gw_leaves.specs.Uses.{map_tables};
-ghost use Rattle.gw_resolve.specs.Seen.{alternative, at_leaf};
+ghost use Rattle.gw_resolve.specs.Seen.{Notes, alternative, at_leaf};
 ghost use Rattle.gw_leaves.specs.own.Seen as seen;
 
 use crate::elements::{Filling, check_comps};

@@ -1,6 +1,6 @@
 //! The rules on what a rule makes of a field.
 ghost use Rattle.std.specs.Prelude.{OnOk};
-ghost use Rattle.gw_resolve.specs.Noted.{Notes};
+ghost use Rattle.gw_resolve.specs.Seen.{Notes};
 ghost use Rattle.gw_leaves.specs.Uses.{making_failures};
 
 use crate::count::walking;
@@ -23,11 +23,7 @@ pub fn check_making(
     ensures { OnOk result (Notes found.old found.new (making_failures sources.entry mark making.now field.now)) }
 {
     match making {
-        Making::Copy(from) => {
-            let filling = Filling::Copied(at_field(sources, from));
-            check_comps(found, sources, mark, filling, &field.comps)
-        }
-        Making::First(from, _) => {
+        Making::Copy(from) | Making::First(from, _) => {
             let filling = Filling::Copied(at_field(sources, from));
             check_comps(found, sources, mark, filling, &field.comps)
         }

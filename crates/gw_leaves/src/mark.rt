@@ -25,12 +25,8 @@ pub(crate) fn leaf_mark(field: u32, at: &At) -> FailureSite
     ensures { seen_mark result ≡ record { line = at.now.line; child = None; missing = false; field = field; comp = at.now.place.comp; sub = at.now.place.sub; count = None } }
 {
     FailureSite {
-        line: at.line,
-        child: None,
-        missing: false,
-        field,
         comp: at.place.comp,
         sub: at.place.sub,
-        count: None,
+        ..field_mark(field, at.line)
     }
 }

@@ -107,8 +107,9 @@ fn add_segment<'a>(
     for rule in &segment.rules {
         let field = field_of(fields, rule.field);
         match &rule.making {
-            Making::Copy(from) => add_copied(comparisons, at_field(sources, from), field)?,
-            Making::First(from, _) => add_copied(comparisons, at_field(sources, from), field)?,
+            Making::Copy(from) | Making::First(from, _) => {
+                add_copied(comparisons, at_field(sources, from), field)?
+            }
             Making::Repeat(from, _, leaves) => {
                 add_leaves(comparisons, walking(sources, from), field, leaves)?
             }

@@ -3,8 +3,7 @@ ghost use Rattle.std.specs.Prelude.{◌≡◌, ◌&&◌, ◌++◌, not, OnOk};
 ghost use Rattle.gw_validate.specs.Breaches.{is_required, is_forbidden};
 ghost use Rattle.gw_resolve.specs.Failures.{fails};
 ghost use Rattle.gw_leaves.specs.Leaves as leaves_spec;
-ghost use Rattle.gw_resolve.specs.Noted.{Notes};
-ghost use Rattle.gw_resolve.specs.Seen.{mark as seen_mark};
+ghost use Rattle.gw_resolve.specs.Seen.{Notes, mark as seen_mark};
 ghost use Rattle.gw_leaves.specs.own.Seen as seen;
 
 use crate::context::MapContext;

@@ -14,7 +14,6 @@ use Rattle.gw_profile.specs.Seen.{profile_value}
 use Rattle.gw_profile.specs.Value.{table_of as table_in}
 use Rattle.gw_maplang.specs.Seen.{now}
 use Rattle.gw_maplang.specs.Shapes as maps
-use Rattle.gw_maplang.specs.Shapes.{Rows, Row, second_of}
 use Rattle.gw_resolve.specs.Naming.{no_rows}
 use Rattle.gw_leaves.specs.Leaves.{Values, any, listed, is_short, given, given_values, has_no_row}
 use Rattle.gw_leaves.specs.Texts.{is_there}
@@ -38,7 +37,7 @@ table_texts profile None len = any (len_count profile) len
 table_texts profile (Some name) len = listed (filter (is_short (len_count profile) len) (values_named profile.tables (Some name)))
 
 -- the rows of the table of this name
-abbrev pub rows_named : List maps.TableValue → List ℕ → Rows
+abbrev pub rows_named : List maps.TableValue → List ℕ → maps.Rows
 rows_named tables name = unwrap_or (maps.table_of name tables) no_rows
 
 -- texts as they are, or what the rows of the table of this name give for them
@@ -52,12 +51,12 @@ fits None n = true
 fits (Some most) n = nat_le n most
 
 -- a text may have no row, and nothing stands for it
-abbrev pub is_unrowed : Rows → Values → Bool
+abbrev pub is_unrowed : maps.Rows → Values → Bool
 is_unrowed rows values = not (is_there rows.other) && has_no_row rows values
 
 -- one of these texts that isn't longer has no row
-abbrev pub some_unrowed : Count → Option ℕ → Rows → List (Vec ℕ) → Bool
-some_unrowed count len rows texts = list_any (λ v. fits len (measure count v.items) && not (is_there (second_of v.items rows.rows))) texts
+abbrev pub some_unrowed : Count → Option ℕ → maps.Rows → List (Vec ℕ) → Bool
+some_unrowed count len rows texts = list_any (λ v. fits len (measure count v.items) && not (is_there (maps.second_of v.items rows.rows))) texts
 
 -- ---- where texts are from
 
@@ -80,7 +79,7 @@ abbrev pub given_at : ContextValue → Option (List ℕ) → Option (List ℕ) �
 given_at s rows table len = texts_in (rowed s.map.tables rows (table_texts (profile_value s.source) table len))
 
 -- as it is, or by these rows
-abbrev pub given_by : Option Rows → List ℕ → Option (List ℕ)
+abbrev pub given_by : Option maps.Rows → List ℕ → Option (List ℕ)
 given_by None text = Some text
 given_by (Some rows) text = given rows text
 
@@ -128,12 +127,12 @@ size_of None text = 0
 size_of (Some count) text = measure count text
 
 -- what is given for each of these texts, as it is or by rows
-abbrev pub AreOfValues : Option Count → Count → List (List ℕ) → Option Rows → List (Vec ℕ) → Lengths → Type 0
+abbrev pub AreOfValues : Option Count → Count → List (List ℕ) → Option maps.Rows → List (Vec ℕ) → Lengths → Type 0
 AreOfValues count to values rows texts lengths = (len most : Option ℕ) →
     some_length len most lengths ≡ list_any (λ v. fits len (size_of count v.items) && holds_of (is_outside to values most) (given_by rows v.items)) texts
 
 -- all that rows give
-abbrev pub AreOfRows : Count → List (List ℕ) → Rows → Lengths → Type 0
+abbrev pub AreOfRows : Count → List (List ℕ) → maps.Rows → Lengths → Type 0
 AreOfRows to values rows lengths = (len most : Option ℕ) →
     some_length len most lengths ≡ (list_any (λ r. is_outside to values most r.second) rows.rows || holds_of (is_outside to values most) rows.other)
 

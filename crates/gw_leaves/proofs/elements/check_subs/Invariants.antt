@@ -1,7 +1,7 @@
 use Rattle.gw_profile.specs.Seen.{sub}
 use Rattle.gw_leaves.specs.own.Seen.{sub_failures}
 use Rattle.gw_resolve.specs.Seen.{failures}
-use Rattle.gw_leaves.proofs.Each.{Tells}
+use Rattle.gw_resolve.proofs.Listing.{Tells}
 use Rattle.gw_leaves.proofs.elements.check_subs.Given as goal
 
 abbrev pub invariant-loop-sub : goal.invariant-loop-sub

@@ -2,7 +2,6 @@ use Rattle.std.proofs.Common.{◌≡◌, ◌∙◌, Option, Bor, List, [], ℕ, 
 use Rattle.std.specs.Prelude.{not, ◌&&◌, option_copied, unwrap_or}
 use Rattle.gw_profile.specs.Numbered.{some_sub}
 use Rattle.gw_profile.specs.Seen as profiles
-use Rattle.gw_profile.specs.Seen.{profile_value}
 use Rattle.gw_profile.specs.Value.{table_of as table_in}
 use Rattle.gw_maplang.specs.Seen.{Contents, now}
 use Rattle.gw_maplang.specs.Shapes.{Rows, table_of}
@@ -29,7 +28,7 @@ pub returns-in_default : goal.returns-in_default
 returns-in_default c =
     let s = c.args.context.now in
     let same = rows_are c.table-rows.result c.map.result.now s.map c.args.name.now c.table-rows.ensures c.map.ensures in
-    any_unrowed (profile_value s.source) (rows_named s.map.tables c.args.name.now) (some_sub c.args.sub) (sym c.table_of.ensures ∙ ap now c.in_default.is)
+    any_unrowed (profiles.profile_value s.source) (rows_named s.map.tables c.args.name.now) (some_sub c.args.sub) (sym c.table_of.ensures ∙ ap now c.in_default.is)
     (sym (ap (λ (r : Rows). is_there r.other) same) ∙ sym c.has_other.ensures ∙ c.if-has_other.false)
 
 pub returns : goal.returns
@@ -41,6 +40,6 @@ returns c =
     c.some_unrowed.ensures
     ∙ ap (λ k. some_unrowed k c.len_of.result (rows_value c.table-rows.result) texts) (c.count.ensures ∙ ap (λ (p : profiles.Contents). p.count) c.source-source.ensures)
     ∙ ap (λ r. some_unrowed s.source.count c.len_of.result r texts) same
-    ∙ listed_unrowed (profile_value s.source) (rows_named s.map.tables c.args.name.now) (some_sub c.args.sub) name c.len_of.result texts (sym c.table_of.ensures ∙ ap now c.in-Some.is) c.len_of.ensures
+    ∙ listed_unrowed (profiles.profile_value s.source) (rows_named s.map.tables c.args.name.now) (some_sub c.args.sub) name c.len_of.result texts (sym c.table_of.ensures ∙ ap now c.in-Some.is) c.len_of.ensures
     (sym (ap (λ (r : Rows). is_there r.other) same) ∙ sym c.has_other.ensures ∙ c.if-has_other.false)
     (c.values_of.ensures ∙ ap (λ (p : profiles.Contents). unwrap_or (table_in name p.tables) []) c.source-source.ensures)

@@ -1,7 +1,7 @@
 use Rattle.gw_resolve.specs.Seen.{failures, at_leaf}
 use Rattle.gw_leaves.specs.Components.{lookup_failures}
 use Rattle.gw_leaves.specs.Uses.{sources_value, map_tables}
-use Rattle.gw_leaves.proofs.Each.{Tells}
+use Rattle.gw_resolve.proofs.Listing.{Tells}
 use Rattle.gw_leaves.proofs.lookup.check_leaves.Given as goal
 
 abbrev pub invariant-loop-at : goal.invariant-loop-at

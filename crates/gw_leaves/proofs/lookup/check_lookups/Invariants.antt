@@ -1,7 +1,7 @@
 use Rattle.gw_resolve.specs.Seen.{failures, rule}
 use Rattle.gw_leaves.specs.Components.{rule_lookups}
 use Rattle.gw_leaves.specs.Uses.{sources_value, map_tables}
-use Rattle.gw_leaves.proofs.Each.{Tells}
+use Rattle.gw_resolve.proofs.Listing.{Tells}
 use Rattle.gw_leaves.proofs.lookup.check_lookups.Given as goal
 
 abbrev pub invariant-loop-rule : goal.invariant-loop-rule

@@ -1,7 +1,7 @@
 use Rattle.gw_resolve.specs.Seen.{failures, alternative, mark}
 use Rattle.gw_leaves.specs.Components.{other_lookups}
 use Rattle.gw_leaves.specs.Uses.{sources_value, map_tables}
-use Rattle.gw_leaves.proofs.Each.{Tells}
+use Rattle.gw_resolve.proofs.Listing.{Tells}
 use Rattle.gw_leaves.proofs.lookup.check_others.Given as goal
 
 abbrev pub invariant-loop-other : goal.invariant-loop-other

@@ -1,7 +1,7 @@
 use Rattle.gw_resolve.specs.Seen.{failures, at_leaf}
 use Rattle.gw_leaves.specs.own.Seen.{made_leaf}
 use Rattle.gw_leaves.specs.Uses.{map_tables}
-use Rattle.gw_leaves.proofs.Each.{Tells}
+use Rattle.gw_resolve.proofs.Listing.{Tells}
 use Rattle.gw_leaves.proofs.made.check_leaves.Given as goal
 
 abbrev pub invariant-loop-at : goal.invariant-loop-at

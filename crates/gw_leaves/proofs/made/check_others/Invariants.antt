@@ -1,7 +1,7 @@
 use Rattle.gw_resolve.specs.Seen.{failures, alternative}
 use Rattle.gw_leaves.specs.own.Seen.{other_failures}
 use Rattle.gw_leaves.specs.Uses.{map_tables}
-use Rattle.gw_leaves.proofs.Each.{Tells}
+use Rattle.gw_resolve.proofs.Listing.{Tells}
 use Rattle.gw_leaves.proofs.made.check_others.Given as goal
 
 abbrev pub invariant-loop-other : goal.invariant-loop-other
