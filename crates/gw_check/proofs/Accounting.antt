@@ -1,23 +1,18 @@
 -- What is accounted for, one after the other.
-use Rattle.std.proofs.Common.{◌≡◌, ℕ, Bool, true, false, [], ◌∷◌, refl, sym, ap, ◌∙◌}
+use Rattle.std.proofs.Common.{◌≡◌, ℕ, Bool, true, sym, ap, ◌∙◌}
 use Rattle.std.specs.Prelude.{◌==◌, ◌&&◌, ◌||◌, bytes_eq}
 use Rattle.std.specs.List.{list_any}
 use Rattle.std.specs.Global.{Vec}
 use Rattle.indexmap.specs.IndexSet.{insert_key}
 use Rattle.std.proofs.lemmas.Cmp.{nat_list_eq_equiv, nat_eq_equiv}
 use Rattle.gw_profile.proofs.Facts.{both}
-use Rattle.gw_leaves.proofs.Inserted.{or_none, inserted}
+use Rattle.gw_leaves.proofs.Inserted.{inserted}
+use Rattle.std.proofs.Math.Bool.{and_comm, or-false}
 use Rattle.gw_check.specs.declared.accounted.FieldAt.{FieldAt}
 use Rattle.gw_check.specs.declared.accounted.Accounted.{Accounted}
 use Rattle.gw_check.specs.Reads.{is_field, is_element}
 use Rattle.gw_resolve.specs.Positions.{Position}
 use Rattle.gw_check.specs.Collected.{has_field, has_element, Gains, no_field, no_element}
-
-swapped : (a b : Bool) → a && b ≡ (b && a)
-swapped true true = refl
-swapped true false = refl
-swapped false true = refl
-swapped false false = refl
 
 -- ---- a field, and an element
 
@@ -40,13 +35,13 @@ field_added old f new keys rest = record {
   fields = λ at n.
       ap (list_any (λ x. bytes_eq at x.at.items && n == x.field)) keys
       ∙ inserted same (λ x. bytes_eq at x.at.items && n == x.field) f (λ x e. alike_fields f x at n e) old.fields.keys
-      ∙ ap (λ b. has_field old at n || b) (turned at f.at.items n f.field ∙ swapped (bytes_eq f.at.items at) (f.field == n));
-  elements = λ at. ap (λ s. list_any (λ v. bytes_eq at v.items) s.keys) rest ∙ sym (or_none (has_element old at));
+      ∙ ap (λ b. has_field old at n || b) (turned at f.at.items n f.field ∙ and_comm (bytes_eq f.at.items at) (f.field == n));
+  elements = λ at. ap (λ s. list_any (λ v. bytes_eq at v.items) s.keys) rest ∙ sym (or-false (has_element old at));
 }
 
 pub element_added : (old : Accounted) (v : Vec ℕ) (new : Accounted) → new.elements.keys ≡ insert_key (λ a b. bytes_eq a.items b.items) old.elements.keys v → new.fields ≡ old.fields → Gains old new no_field (is_element v.items)
 element_added old v new keys rest = record {
-  fields = λ at n. ap (λ s. list_any (λ x. bytes_eq at x.at.items && n == x.field) s.keys) rest ∙ sym (or_none (has_field old at n));
+  fields = λ at n. ap (λ s. list_any (λ x. bytes_eq at x.at.items && n == x.field) s.keys) rest ∙ sym (or-false (has_field old at n));
   elements = λ at.
       ap (list_any (λ x. bytes_eq at x.items)) keys
       ∙ inserted (λ a b. bytes_eq a.items b.items) (λ x. bytes_eq at x.items) v

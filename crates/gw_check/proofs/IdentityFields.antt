@@ -1,11 +1,11 @@
 -- The fields of a segment are copied as its own profile asks for them.
-use Rattle.std.proofs.Common.{◌≡◌, ℕ, suc, ◌≤◌, ◌<◌, inl, inr, Bool, true, false, List, [], ◌∷◌, ◌++◌, map, Option, Some, None, refl, sym, ap, ap₂, ◌∙◌, subst, arith}
-use Rattle.std.specs.Prelude.{if◌then◌else◌, cond, ◌==◌, ◌&&◌, ◌||◌, not, nat_lt, nat_le, find, filter, flat_map, unwrap_or}
+use Rattle.std.proofs.Common.{◌≡◌, ℕ, suc, ◌<◌, inl, inr, Bool, true, false, List, [], ◌∷◌, ◌++◌, map, Option, Some, None, refl, sym, ap, ap₂, ◌∙◌, subst, arith}
+use Rattle.std.specs.Prelude.{if◌then◌else◌, cond, ◌==◌, ◌&&◌, ◌||◌, not, nat_lt, find, filter, flat_map, unwrap_or}
 use Rattle.std.specs.List.{AllByRecursion, list_any}
 use Rattle.std.proofs.lemmas.Bool.{le-ltb, eq-eqb, ne_eqb}
-use Rattle.std.proofs.lemmas.Bool.Decides.{leb_tells}
 use Rattle.gw_profile.specs.declared.shape.Usage.{Usage}
-use Rattle.gw_profile.specs.declared.shape.Usage.TheVariants.{R, RE, O, X}
+use Rattle.gw_profile.specs.declared.shape.Usage.TheVariants.{R, X}
+use Rattle.gw_profile.specs.declared.shape.Card.{Card}
 use Rattle.gw_profile.specs.Fault.{is_among, least_field}
 use Rattle.gw_profile.specs.Line as line
 use Rattle.gw_profile.specs.Shapes.{SubValue, CompValue, FieldValue, SegmentValue, ProfileValue}
@@ -16,7 +16,7 @@ use Rattle.gw_profile.specs.Value.{table_of}
 use Rattle.gw_profile.specs.WellFormed.{Agrees, Rising, field_numbers, LawfulComp, LawfulField, LawfulSegment}
 use Rattle.gw_profile.specs.Among as lists
 use Rattle.gw_profile.proofs.Among.{among_is}
-use Rattle.gw_profile.proofs.Facts.{tells}
+use Rattle.gw_profile.proofs.Facts.{tells, le_is, le_test}
 use Rattle.gw_validate.specs.Breaches.{is_required, is_forbidden}
 use Rattle.gw_leaves.specs.declared.shape.Presence.{Presence}
 use Rattle.gw_leaves.specs.declared.shape.Presence.TheVariants.{Never}
@@ -29,7 +29,7 @@ use Rattle.gw_leaves.specs.Leaves.{Sources, listed, by_usage, comp_presence, sub
 use Rattle.gw_profile.specs.Numbered.{field_of, comp_of, sub_of}
 use Rattle.gw_leaves.specs.Counts.{rule_count, reference_count}
 use Rattle.gw_leaves.specs.Components.{field_mark, comp_in, sub_in, table_values, value_failures, copied_sub, copied_comp, copied_field, rule_lookups}
-use Rattle.gw_check.specs.Fields.{is_expected, content_failures, count_failures, field_failures, segment_failures}
+use Rattle.gw_check.specs.Fields.{is_expected, often_failures, content_failures, count_failures, field_failures, segment_failures}
 use Rattle.gw_check.specs.Levels.{sources}
 use Rattle.gw_check.proofs.IdentityNamed.{same_rule, same_rules, no_more, holds}
 
@@ -66,10 +66,8 @@ module _ {A : Type 0} (number : A → ℕ) where
 -- ---- rules
 
 pub forbidden_is : (u : Usage) → line.is_forbidden (Some u) ≡ is_forbidden u
-forbidden_is R = refl
-forbidden_is RE = refl
-forbidden_is O = refl
 forbidden_is X = refl
+forbidden_is u = refl
 
 abbrev rule_or : Bool → ℕ → Option Rule
 rule_or forbidden number = if forbidden then None else Some (same_rule number)
@@ -126,10 +124,7 @@ none_long count most (x ∷ texts) = by (is_short count (Some most) x) refl (non
   where
     by : (b : Bool) → is_short count (Some most) x ≡ b → list_any (λ text. nat_lt most (measure count text)) (filter (is_short count (Some most)) texts) ≡ false →
         list_any (λ text. nat_lt most (measure count text)) (cond b (x ∷ filter (is_short count (Some most)) texts) (filter (is_short count (Some most)) texts)) ≡ false
-    by true is later = ap₂ (λ s t. s || t) (le-ltb most (measure count x) (short is)) later
-      where
-        short : nat_le (measure count x) most ≡ true → measure count x ≤ most
-        short e = elim (leb_tells (measure count x) most) [ inl h ↦ h.1 | inr h ↦ absurd (cc) ]
+    by true is later = ap₂ (λ s t. s || t) (le-ltb most (measure count x) (le_is (measure count x) most is)) later
     by false is later = later
 
 -- lengths of one count
@@ -159,15 +154,11 @@ module _ (profile : ProfileValue) where
 
   is_there : (u : Usage) → is_required u && not (is_always (by_usage (Some u))) ≡ false
   is_there R = refl
-  is_there RE = refl
-  is_there O = refl
-  is_there X = refl
+  is_there u = refl
 
   is_never_there : (u : Usage) → is_forbidden u && not (is_absent (by_usage (Some u))) ≡ false
-  is_never_there R = refl
-  is_never_there RE = refl
-  is_never_there O = refl
   is_never_there X = refl
+  is_never_there u = refl
 
   values_hold : (mark : Mark) (presence : Presence) (s : SubValue) → value_failures profile mark (record { presence = presence; values = sub_values profile (Some s) }) s ≡ []
   values_hold mark presence s =
@@ -185,10 +176,8 @@ module _ (profile : ProfileValue) where
       ∙ values_hold (sub_in mark s.number) (sub_presence (Some c) (sub_of (Some c) s.number)) s)
 
   x_is_absent : (u : Usage) → is_absent (by_usage (Some u)) ≡ true → u ≡ X
-  x_is_absent R e = absurd (cc)
-  x_is_absent RE e = absurd (cc)
-  x_is_absent O e = absurd (cc)
   x_is_absent X e = refl
+  x_is_absent u e = absurd (cc)
 
   subs_hold : (names : List (List ℕ)) (mark : Mark) (c : CompValue) → LawfulComp names c → flat_map (copied_sub profile profile mark (Some c)) c.subs ≡ []
   subs_hold names mark c l = elim (tells (is_absent (comp_presence (Some c)))) [
@@ -214,34 +203,32 @@ module _ (profile : ProfileValue) where
 
 -- ---- a field
 
-pub within_itself : (most : Option ℕ) → is_within most most ≡ true
+within_itself : (most : Option ℕ) → is_within most most ≡ true
 within_itself None = refl
-within_itself (Some most) = elim (leb_tells most most) [ inl h ↦ h.0 | inr h ↦ absurd (omega (arith, h.1)) ]
+within_itself (Some most) = le_test most most (omega arith)
 
--- with a rule that gives it as often as it comes
-counts_hold : (holder : ℕ) (f : FieldValue) (r : Rule) → line.is_forbidden (Some f.usage) ≡ false → count_failures holder (of_card f.card) f (Some r) ≡ []
-counts_hold holder f r other =
-    let allowed : is_forbidden f.usage ≡ false = sym (forbidden_is f.usage) ∙ other in
+-- what comes as often as it may
+pub given_holds : (mark : Mark) (u : Usage) (card : Card) → line.is_forbidden (Some u) ≡ false → often_failures mark (of_card card) u card false ≡ []
+given_holds mark u card other =
+    let allowed : is_forbidden u ≡ false = sym (forbidden_is u) ∙ other in
     no_more _ _ (no_more _ _ (no_more _ _
-    (holds 4 _ _ (not_and (not (is_forbidden f.usage)) _ (ap not (within_itself f.card.max))))
-    (holds 5 _ _ (le-ltb f.card.min f.card.min (omega arith))))
+    (holds 4 _ _ (not_and (not (is_forbidden u)) _ (ap not (within_itself card.max))))
+    (holds 5 _ _ (le-ltb card.min card.min (omega arith))))
     (holds 8 _ _ (not_and _ false refl)))
-    (holds 11 _ _ (ap (λ b. b && not (is_never f.card.max)) allowed))
+    (holds 11 _ _ (ap (λ b. b && not (is_never card.max)) allowed))
 
--- X, without a rule
-none_expected : (holder : ℕ) (f : FieldValue) → f.usage ≡ X → f.card.min ≡ 0 → count_failures holder never f None ≡ []
-none_expected holder f is low =
+-- X, where nothing gives it
+pub absent_holds : (mark : Mark) (u : Usage) (card : Card) → u ≡ X → card.min ≡ 0 → often_failures mark never u card true ≡ []
+absent_holds mark u card is low =
     no_more _ _ (no_more _ _ (no_more _ _
-    (holds 4 _ _ (ap (λ u. not (is_forbidden u) && not (is_within (Some 0) f.card.max)) is))
+    (holds 4 _ _ (ap (λ v. not (is_forbidden v) && not (is_within (Some 0) card.max)) is))
     (holds 5 _ _ (ap (nat_lt 0) low)))
-    (holds 8 _ _ (ap (λ u. is_expected u && true) is)))
-    (holds 11 _ _ (not_and (is_forbidden f.usage) false refl))
+    (holds 8 _ _ (ap (λ v. is_expected v && true) is)))
+    (holds 11 _ _ (not_and (is_forbidden u) false refl))
 
 pub x_is : (u : Usage) → line.is_forbidden (Some u) ≡ true → u ≡ X
-x_is R e = absurd (cc)
-x_is RE e = absurd (cc)
-x_is O e = absurd (cc)
 x_is X e = refl
+x_is u e = absurd (cc)
 
 -- ---- a segment that is walked
 
@@ -270,11 +257,11 @@ module _ (profile : ProfileValue) (names : List (List ℕ)) (s : SegmentValue) (
         | inl h ↦
             let is = x_is f.usage h in
             let none : rule_of (same_rules s.fields) f.number ≡ None = ruled ∙ ap (λ b. rule_or b f.number) h in
-            ap (failures_of f) none ∙ no_more _ _ (none_expected 0 f is (subst (λ u. Agrees u f.card) is l.agrees).0) refl
+            ap (failures_of f) none ∙ no_more _ _ (absent_holds (field_mark f.number 0) f.usage f.card is (subst (λ u. Agrees u f.card) is l.agrees).0) refl
         | inr h ↦
             let some : rule_of (same_rules s.fields) f.number ≡ Some (same_rule f.number) = ruled ∙ ap (λ b. rule_or b f.number) h in
             ap (failures_of f) some
-            ∙ no_more _ _ (ap (λ c. count_failures 0 c f (Some (same_rule f.number))) (count_is f found) ∙ counts_hold 0 f (same_rule f.number) h) (contents_hold f l found)
+            ∙ no_more _ _ (ap (λ c. count_failures 0 c f (Some (same_rule f.number))) (count_is f found) ∙ given_holds (field_mark f.number 0) f.usage f.card h) (contents_hold f l found)
       ]
 
   no_lookups : (fields : List FieldValue) → flat_map (rule_lookups walked) (same_rules fields) ≡ []

@@ -6,19 +6,16 @@ use Rattle.std.proofs.lemmas.Slice.Eq.{bytes_eq-Decides}
 use Rattle.gw_profile.specs.Among.{Among, Distinct}
 use Rattle.gw_profile.specs.Line.{is_forbidden}
 use Rattle.gw_profile.specs.Shapes.{FieldValue, SegmentValue, GroupValue, Forest, nothing, segment, group}
-use Rattle.gw_profile.specs.WellFormed.{LawfulGroup, EachGroup}
 use Rattle.gw_profile.specs.WellFormed as formed
 use Rattle.gw_maplang.specs.Shapes as raw
-use Rattle.gw_maplang.specs.Shapes.{TableValue}
 use Rattle.gw_maplang.specs.Identity.{walk_all, field_rules, copy_rule, same_items}
 use Rattle.gw_resolve.specs.Failures.{Mark, at_line, Failure, fails, where_so, or_later}
-use Rattle.gw_resolve.specs.Places.{Place, Element, a_segment, a_group, Found, nodes_of, child, nodes_of_child, found, element_of, within}
-use Rattle.gw_resolve.specs.Intervals.{once, product}
+use Rattle.gw_resolve.specs.Places.{Place, Element, a_segment, a_group, Found, nodes_of, child, nodes_of_child, card_of, found, element_of, within}
+use Rattle.gw_resolve.specs.Intervals.{once, of_card, product}
 use Rattle.gw_resolve.specs.Order.{is_segment, is_group}
-use Rattle.gw_resolve.specs.Resolved.{copy, Rule, Items, no_items, segment_item, group_item}
+use Rattle.gw_resolve.specs.Resolved.{copy, Rule, SegmentItem, GroupItem, Items, no_items, segment_item, group_item}
 use Rattle.gw_profile.specs.Labels.{labelled}
 use Rattle.gw_resolve.specs.Naming.{place_of, place_or, itself, walked_if, node_or, ends_at_segment, is_single_place, has_place, but_last, label_failures, segments_failures, walk_failures, rule_failures, path_failures, target_failures, rule, resolved_items}
-use Rattle.gw_resolve.specs.Founds.{count_of}
 use Rattle.gw_resolve.proofs.Finding.{below_there}
 use Rattle.gw_check.proofs.Placing.{first_or_later}
 
@@ -37,13 +34,19 @@ abbrev pub same_rules : List FieldValue → List Rule
 same_rules [] = []
 same_rules (f ∷ fields) = if is_forbidden (Some f.usage) then same_rules fields else same_rule f.number ∷ same_rules fields
 
--- each of the nodes from number j on that isn't X, from itself
+-- node j, from itself
+abbrev pub same_segment : ℕ → SegmentValue → SegmentItem
+same_segment j s = record { line = 0; child = j; place = Some (at_node j); condition = None; rules = same_rules s.fields }
+
+abbrev pub same_group : ℕ → GroupItem
+same_group j = record { line = 0; child = j; place = at_node j; condition = None }
+
+-- each of the nodes from number j on that isn't X
 abbrev pub same : ℕ → Forest → Items
 same j nothing = no_items
 same j (segment s rest) =
-    if is_forbidden (Some s.usage) then same (suc j) rest
-    else segment_item (record { line = 0; child = j; place = Some (at_node j); condition = None; rules = same_rules s.fields }) (same (suc j) rest)
-same j (group g nodes rest) = group_item (record { line = 0; child = j; place = at_node j; condition = None }) (same 0 nodes) (same (suc j) rest)
+    if is_forbidden (Some s.usage) then same (suc j) rest else segment_item (same_segment j s) (same (suc j) rest)
+same j (group g nodes rest) = group_item (same_group j) (same 0 nodes) (same (suc j) rest)
 
 -- ---- no failures
 
@@ -146,7 +149,7 @@ module _ (e : Element) (scope : List Element) (j : ℕ) (label : List ℕ) (x : 
   pub place_is : place_or (e ∷ scope) (label ∷ []) ≡ at_node j
   place_is = ap (λ p. unwrap_or p itself) place_there
 
-  pub found_there : found (e ∷ scope) (at_node j) ≡ Some (record { element = x; count = product (count_of x) once })
+  pub found_there : found (e ∷ scope) (at_node j) ≡ Some (record { element = x; count = product (of_card (card_of x)) once })
   found_there = below_there [] e x j h.child_is
 
   pub within_there : within (e ∷ scope) (at_node j) ≡ x ∷ e ∷ scope
@@ -179,10 +182,10 @@ module _ (s : SegmentValue) (scope : List Element) where
       elim (is_forbidden (Some f.usage)) as (λ b. flat_map (rule_failures (a_segment s ∷ scope)) (if b then field_rules s.label fields else copy_rule s.label f.number ∷ field_rules s.label fields) ≡ [])
       [ true ↦ rules_hold fields | false ↦ no_more (rule_failures (a_segment s ∷ scope) (copy_rule s.label f.number)) _ (rule_holds f.number) (rules_hold fields) ]
 
-  rule_is : (tables : List TableValue) (number : ℕ) → rule tables (a_segment s ∷ scope) (copy_rule s.label number) ≡ same_rule number
+  rule_is : (tables : List raw.TableValue) (number : ℕ) → rule tables (a_segment s ∷ scope) (copy_rule s.label number) ≡ same_rule number
   rule_is tables number = ap (λ p. record { line = 0; field = number; making = copy (record { place = unwrap_or p itself; field = number }) }) own_place
 
-  rules_are : (tables : List TableValue) (fields : List FieldValue) → map (rule tables (a_segment s ∷ scope)) (field_rules s.label fields) ≡ same_rules fields
+  rules_are : (tables : List raw.TableValue) (fields : List FieldValue) → map (rule tables (a_segment s ∷ scope)) (field_rules s.label fields) ≡ same_rules fields
   rules_are tables [] = refl
   rules_are tables (f ∷ fields) =
       elim (is_forbidden (Some f.usage)) as
@@ -197,7 +200,7 @@ segment_of s = record { line = 0; label = s.label; source = Some (walk_all s.lab
 abbrev group_of : GroupValue → raw.GroupItem
 group_of g = record { line = 0; label = g.label; walk = walk_all g.label }
 
-pub paths_hold : (e : Element) (scope : List Element) (j : ℕ) (nodes : Forest) → Standing (nodes_of e) j nodes → Distinct (formed.labels nodes) → EachGroup LawfulGroup nodes → path_failures (e ∷ scope) (same_items nodes) ≡ []
+pub paths_hold : (e : Element) (scope : List Element) (j : ℕ) (nodes : Forest) → Standing (nodes_of e) j nodes → Distinct (formed.labels nodes) → formed.EachGroup formed.LawfulGroup nodes → path_failures (e ∷ scope) (same_items nodes) ≡ []
 paths_hold e scope j nothing h d g = refl
 paths_hold e scope j (segment s rest) h d g = by (is_forbidden (Some s.usage)) (paths_hold e scope (suc j) rest (behind_segment (nodes_of e) j s rest h d) d.1 g)
   where
@@ -223,7 +226,7 @@ label_holds whole is_kind k j label x h kind order =
     no_more _ _ (holds 3 (at_line 0) _ (ap (λ o. not (is_kind (option_and_then (child whole) o))) h.label_is ∙ ap (λ o. not (is_kind o)) h.child_is ∙ ap not kind))
     (holds 3 (at_line 0) _ (ap (λ n. nat_lt n k) (number_there whole j k label x h) ∙ le-ltb j k order))
 
-pub targets_hold : (whole : Forest) (k j : ℕ) (nodes : Forest) → k ≤ j → Standing whole j nodes → Distinct (formed.labels nodes) → EachGroup LawfulGroup nodes → target_failures whole k (same_items nodes) ≡ []
+pub targets_hold : (whole : Forest) (k j : ℕ) (nodes : Forest) → k ≤ j → Standing whole j nodes → Distinct (formed.labels nodes) → formed.EachGroup formed.LawfulGroup nodes → target_failures whole k (same_items nodes) ≡ []
 targets_hold whole k j nothing order h d g = refl
 targets_hold whole k j (segment s rest) order h d g =
     by (is_forbidden (Some s.usage)) (targets_hold whole k (suc j) rest (omega (arith, order)) later d.1 g) (targets_hold whole j (suc j) rest (omega arith) later d.1 g)
@@ -249,7 +252,7 @@ targets_hold whole k j (group x nodes rest) order h d g =
 
 -- ---- the items without labels
 
-pub items_are : (tables : List TableValue) (e : Element) (scope : List Element) (j : ℕ) (nodes : Forest) → Standing (nodes_of e) j nodes → Distinct (formed.labels nodes) → EachGroup LawfulGroup nodes → resolved_items tables (e ∷ scope) (nodes_of e) (same_items nodes) ≡ same j nodes
+pub items_are : (tables : List raw.TableValue) (e : Element) (scope : List Element) (j : ℕ) (nodes : Forest) → Standing (nodes_of e) j nodes → Distinct (formed.labels nodes) → formed.EachGroup formed.LawfulGroup nodes → resolved_items tables (e ∷ scope) (nodes_of e) (same_items nodes) ≡ same j nodes
 items_are tables e scope j nothing h d g = refl
 items_are tables e scope j (segment s rest) h d g = by (is_forbidden (Some s.usage)) (items_are tables e scope (suc j) rest (behind_segment (nodes_of e) j s rest h d) d.1 g)
   where
@@ -267,7 +270,7 @@ items_are tables e scope j (segment s rest) h d g = by (is_forbidden (Some s.usa
 
     by : (b : Bool) → resolved_items tables (e ∷ scope) (nodes_of e) (same_items rest) ≡ same (suc j) rest →
         resolved_items tables (e ∷ scope) (nodes_of e) (if b then same_items rest else raw.segment (segment_of s) (same_items rest))
-        ≡ (if b then same (suc j) rest else segment_item (record { line = 0; child = j; place = Some (at_node j); condition = None; rules = same_rules s.fields }) (same (suc j) rest))
+        ≡ (if b then same (suc j) rest else segment_item (same_segment j s) (same (suc j) rest))
     by true later = later
     by false later = λ i. segment_item (record { line = 0; child = number i; place = Some (walks i); condition = None; rules = rules i }) (later i)
 items_are tables e scope j (group x nodes rest) h d g =

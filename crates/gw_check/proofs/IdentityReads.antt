@@ -1,5 +1,5 @@
 -- No field is passed over by the map from a profile to itself.
-use Rattle.std.proofs.Common.{◌≡◌, ℕ, suc, Bool, true, false, List, [], ◌∷◌, ◌++◌, Some, None, refl, sym, ap, ap₂, ◌∙◌}
+use Rattle.std.proofs.Common.{◌≡◌, ℕ, suc, Bool, true, false, List, [], ◌∷◌, ◌++◌, Some, refl, sym, ap, ap₂, ◌∙◌}
 use Rattle.std.specs.Prelude.{if◌then◌else◌, ◌==◌, ◌&&◌, ◌||◌, not, bytes_eq, flat_map}
 use Rattle.std.proofs.lemmas.Bool.{eq-eqb}
 use Rattle.std.proofs.lemmas.List.{append-nil}
@@ -8,12 +8,12 @@ use Rattle.std.proofs.lemmas.Slice.Eq.{bytes_eq-Decides}
 use Rattle.gw_profile.specs.Line as line
 use Rattle.gw_profile.specs.Shapes.{FieldValue, Forest, nothing, segment, group}
 use Rattle.gw_profile.proofs.Facts.{and_of, or_left, or_right}
-use Rattle.gw_resolve.specs.Resolved.{SegmentItem, segment_item}
+use Rattle.gw_resolve.specs.Resolved.{segment_item}
 use Rattle.gw_check.specs.Sites.{Site, node_origin, node_sites, rules_sites, segment_sites, items_sites}
 use Rattle.gw_check.specs.Reads.{SourceField, reads, is_read, drops_field, drops_element, may_hold, is_missed, missed_field, missed_nodes}
 use Rattle.gw_resolve.specs.Positions.{Position}
-use Rattle.gw_check.proofs.IdentityNamed.{at_node, same_rule, same_rules, same}
-use Rattle.gw_check.proofs.IdentityFields.{forbidden_is, x_is}
+use Rattle.gw_check.proofs.IdentityNamed.{at_node, same_rule, same_rules, same_segment, same}
+use Rattle.gw_check.proofs.IdentityFields.{forbidden_is, not_and, x_is}
 
 -- what is read here is read there
 abbrev Read : List Site → List Site → Type 0
@@ -31,11 +31,7 @@ known made at field = is_read made at field || drops_field [] at field
 
 -- a field that is read, and one that is X, isn't passed over
 read_holds : (made : List Site) (at : Position) (f : FieldValue) → is_read made at f.number ≡ true → is_missed (known made) at f ≡ false
-read_holds made at f e = ap (λ b. may_hold f.usage && not (b || false)) e ∙ by (may_hold f.usage)
-  where
-    by : (b : Bool) → b && false ≡ false
-    by true = refl
-    by false = refl
+read_holds made at f e = ap (λ b. may_hold f.usage && not (b || false)) e ∙ not_and (may_hold f.usage) false refl
 
 none_holds : (made : List Site) (at : Position) (f : FieldValue) → line.is_forbidden (Some f.usage) ≡ true → is_missed (known made) at f ≡ false
 none_holds made at f e = ap (λ u. may_hold u && not (known made at f.number)) (x_is f.usage e)
@@ -66,18 +62,15 @@ pub reads_hold : (made : List Site) (scope : List Position) (above to : Position
 reads_hold made scope above to j nothing h = refl
 reads_hold made scope above to j (segment s rest) h = by (line.is_forbidden (Some s.usage)) refl h (reads_hold made scope above to (suc j) rest)
   where
-    item : SegmentItem
-    item = record { line = 0; child = j; place = Some (at_node j); condition = None; rules = same_rules s.fields }
-
     passed : List SourceField
     passed = flat_map (missed_field (known made) (above ++ j ∷ [])) s.fields
 
-    by : (b : Bool) → line.is_forbidden (Some s.usage) ≡ b → Read (items_sites (above ∷ scope) to (if b then same (suc j) rest else segment_item item (same (suc j) rest))) made →
+    by : (b : Bool) → line.is_forbidden (Some s.usage) ≡ b → Read (items_sites (above ∷ scope) to (if b then same (suc j) rest else segment_item (same_segment j s) (same (suc j) rest))) made →
         (Read (items_sites (above ∷ scope) to (same (suc j) rest)) made → missed_nodes (known made) (drops_element []) above (suc j) rest ≡ []) → missed_nodes (known made) (drops_element []) above j (segment s rest) ≡ []
     by true is covers later =
         ap₂ (λ a b. a ++ b) (ap (λ b. if b then [] else passed) (sym (forbidden_is s.usage) ∙ is)) (later covers)
     by false is covers later =
-        let parts = by_both (segment_sites (above ∷ scope) (to ++ j ∷ []) item) (items_sites (above ∷ scope) to (same (suc j) rest)) made covers in
+        let parts = by_both (segment_sites (above ∷ scope) (to ++ j ∷ []) (same_segment j s)) (items_sites (above ∷ scope) to (same (suc j) rest)) made covers in
         let its = by_both (node_sites 0 (to ++ j ∷ []) (node_origin (above ∷ scope) (at_node j))) (rules_sites ((above ++ j ∷ []) ∷ above ∷ scope) (to ++ j ∷ []) (same_rules s.fields)) made parts.0 in
         ap₂ (λ a b. a ++ b)
         (ap (λ b. if b then [] else passed) (sym (forbidden_is s.usage) ∙ is) ∙ fields_hold made (above ++ j ∷ []) (to ++ j ∷ []) (above ∷ scope) s.fields its.1)

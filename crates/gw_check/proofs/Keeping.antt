@@ -1,6 +1,6 @@
 -- What a map keeps is kept where its labels are looked up.
-use Rattle.std.proofs.Common.{◌≡◌, ℕ, zero, suc, ◌≤◌, inl, inr, Bool, true, false, List, [], ◌∷◌, map, length, Option, Some, None, refl, sym, ap, ◌∙◌, subst, arith}
-use Rattle.std.specs.Prelude.{if◌then◌else◌, bytes_eq, codes, ◌==◌, unwrap_or, option_map}
+use Rattle.std.proofs.Common.{◌≡◌, ℕ, zero, suc, ◌≤◌, inl, inr, Bool, true, false, List, [], ◌∷◌, map, length, Some, refl, sym, ap, ◌∙◌, subst, arith}
+use Rattle.std.specs.Prelude.{if◌then◌else◌, bytes_eq, codes, ◌==◌, unwrap_or}
 use Rattle.std.specs.List.{AllByRecursion}
 use Rattle.std.proofs.lemmas.Bool.Decides.{eqb_tells}
 use Rattle.std.proofs.lemmas.Slice.Eq.{bytes_eq-Decides}
@@ -8,12 +8,10 @@ use Rattle.gw_er7.specs.Names as Names
 use Rattle.gw_er7.specs.Message.{first_field}
 use Rattle.gw_er7.proofs.Messages.{header_is}
 use Rattle.gw_profile.proofs.Facts.{both, tells}
-use Rattle.gw_profile.specs.Shapes.{SegmentValue, GroupValue, Forest, nothing, segment, group, ProfileValue}
+use Rattle.gw_profile.specs.Shapes.{SegmentValue, Forest, nothing, segment, group, ProfileValue}
 use Rattle.gw_profile.specs.WellFormed as profiles
-use Rattle.gw_profile.specs.WellFormed.{EachSegment}
 use Rattle.gw_maplang.specs.Among.{Distinct}
 use Rattle.gw_maplang.specs.Shapes as raw
-use Rattle.gw_maplang.specs.Shapes.{TableValue, table_of, MapValue}
 use Rattle.gw_maplang.specs.Lawful as theirs
 use Rattle.gw_resolve.specs.Places.{Element, the_whole, child, nodes_of_child, name_of, within}
 use Rattle.gw_resolve.specs.Resolved.{Alternative, Rule}
@@ -33,11 +31,8 @@ three_long : (name : List ℕ) → Names.is_name name ≡ true → length name �
 three_long name e = elim (eqb_tells (length name) 3) [ inl h ↦ h.1 | inr h ↦ absurd (let n : false ≡ true = sym h.0 ∙ (both (length name == 3) (Names.is_named name) e).0 in cc) ]
 
 is_header_name : (name : List ℕ) → length name ≡ 3 → Names.is_header name ≡ true → name ≡ codes "MSH"
-is_header_name [] n e = absurd (omega (arith, n))
-is_header_name (a ∷ []) n e = absurd (omega (arith, n))
-is_header_name (a ∷ b ∷ []) n e = absurd (omega (arith, n))
 is_header_name (a ∷ b ∷ c ∷ []) n e = header_is (a ∷ b ∷ c ∷ []) e
-is_header_name (a ∷ b ∷ c ∷ d ∷ name) n e = absurd (omega (arith, n))
+is_header_name name n e = absurd (omega (arith, n))
 
 one_at_least : (label : List ℕ) → 1 ≤ theirs.least_field label
 one_at_least label = elim (theirs.is_msh label) as (λ t. 1 ≤ (if t then 3 else 1)) [ true ↦ omega arith | false ↦ omega arith ]
@@ -53,12 +48,12 @@ fair_other s is other =
     ] in
     subst (λ n. n ≤ theirs.least_field s.label) (sym low) (one_at_least s.label)
 
-fair_others : (tables : List (List ℕ)) (nodes : Forest) → EachSegment (profiles.LawfulSegment tables) nodes → EachSegment profiles.IsOther nodes → EachSegment Fair nodes
+fair_others : (tables : List (List ℕ)) (nodes : Forest) → profiles.EachSegment (profiles.LawfulSegment tables) nodes → profiles.EachSegment profiles.IsOther nodes → profiles.EachSegment Fair nodes
 fair_others tables nothing h o = tt
 fair_others tables (segment s rest) h o = (fair_other s h.0.named o.0, fair_others tables rest h.1 o.1)
 fair_others tables (group g nodes rest) h o = (fair_others tables nodes h.0 o.0, fair_others tables rest h.1 o.1)
 
-fair_all : (tables : List (List ℕ)) (nodes : Forest) → EachSegment (profiles.LawfulSegment tables) nodes → profiles.Headed nodes → EachSegment Fair nodes
+fair_all : (tables : List (List ℕ)) (nodes : Forest) → profiles.EachSegment (profiles.LawfulSegment tables) nodes → profiles.Headed nodes → profiles.EachSegment Fair nodes
 fair_all tables nothing h o = tt
 fair_all tables (segment s rest) h o = (fair_header s o.0, fair_others tables rest h.1 o.1)
 fair_all tables (group g nodes rest) h o = absurd o
@@ -68,7 +63,7 @@ abbrev FairAt : Forest → List ℕ → ℕ → Type 0
 FairAt nodes label k = is_segment (child nodes k) ≡ true → first_field (name_of (child nodes k)) ≤ theirs.least_field label
 
 -- the segment of a label has a name that is fair to it
-fair_child : (nodes : Forest) (label : List ℕ) (k : ℕ) → EachSegment Fair nodes → labelled nodes label ≡ Some k → FairAt nodes label k
+fair_child : (nodes : Forest) (label : List ℕ) (k : ℕ) → profiles.EachSegment Fair nodes → labelled nodes label ≡ Some k → FairAt nodes label k
 fair_child nothing label k f at = absurd (cc)
 fair_child (segment s rest) label k f at =
     first_or_later (FairAt (segment s rest) label) (bytes_eq s.label label) (labelled rest label) k
@@ -76,7 +71,7 @@ fair_child (segment s rest) label k f at =
 fair_child (group g nodes rest) label k f at =
     first_or_later (FairAt (group g nodes rest) label) (bytes_eq g.label label) (labelled rest label) k (λ h is. absurd (cc)) (λ i there. fair_child rest label i f.1 there) at
 
-fair_below : (nodes : Forest) (k : ℕ) → EachSegment Fair nodes → EachSegment Fair (nodes_of_child nodes k)
+fair_below : (nodes : Forest) (k : ℕ) → profiles.EachSegment Fair nodes → profiles.EachSegment Fair (nodes_of_child nodes k)
 fair_below nothing k f = tt
 fair_below (segment s rest) zero f = tt
 fair_below (segment s rest) (suc k) f = fair_below rest k f.1
@@ -85,10 +80,10 @@ fair_below (group g nodes rest) (suc k) f = fair_below rest k f.1
 
 -- ---- tables
 
-row_of_one : (tables : List TableValue) (name : List ℕ) → AllByRecursion theirs.LawfulTable tables → LawfulRows (unwrap_or (table_of name tables) no_rows)
+row_of_one : (tables : List raw.TableValue) (name : List ℕ) → AllByRecursion theirs.LawfulTable tables → LawfulRows (unwrap_or (raw.table_of name tables) no_rows)
 row_of_one [] name h = record { each = tt; other = tt }
 row_of_one (t ∷ tables) name h =
-    elim (bytes_eq name t.name) as (λ b. LawfulRows (unwrap_or (if b then Some (record { rows = t.rows; other = t.other }) else table_of name tables) no_rows)) [
+    elim (bytes_eq name t.name) as (λ b. LawfulRows (unwrap_or (if b then Some (record { rows = t.rows; other = t.other }) else raw.table_of name tables) no_rows)) [
       | true ↦ record { each = h.0.each; other = h.0.other }
       | false ↦ row_of_one tables name h.1
     ]
@@ -99,47 +94,46 @@ source_kept : (scope : List Element) (repeated : Bool) (r : raw.Ref) → theirs.
 source_kept scope repeated (raw.Field from place) h = tt
 source_kept scope repeated (raw.Current place) h = h.0
 
-leaf_kept : (tables : List TableValue) (names : List (List ℕ)) (scope : List Element) (repeated : Bool) (l : raw.Leaf) → AllByRecursion theirs.LawfulTable tables → theirs.LawfulLeaf names repeated l → LawfulLeaf repeated (leaf tables scope l)
+leaf_kept : (tables : List raw.TableValue) (names : List (List ℕ)) (scope : List Element) (repeated : Bool) (l : raw.Leaf) → AllByRecursion theirs.LawfulTable tables → theirs.LawfulLeaf names repeated l → LawfulLeaf repeated (leaf tables scope l)
 leaf_kept tables names scope repeated (raw.Const value) t h = h
 leaf_kept tables names scope repeated (raw.Copy ref) t h = source_kept scope repeated ref h
 leaf_kept tables names scope repeated (raw.Lookup table ref) t h = (row_of_one tables table t, source_kept scope repeated ref h.1)
 leaf_kept tables names scope repeated (raw.Date digits ref) t h = source_kept scope repeated ref h.1
 
-others_kept : (tables : List TableValue) (names : List (List ℕ)) (scope : List Element) (repeated : Bool) (os : List raw.Alternative) → AllByRecursion theirs.LawfulTable tables → theirs.LawfulOthers names repeated os → AllByRecursion (λ (o : Alternative). LawfulLeaf repeated o.leaf) (map (alternative tables scope) os)
+others_kept : (tables : List raw.TableValue) (names : List (List ℕ)) (scope : List Element) (repeated : Bool) (os : List raw.Alternative) → AllByRecursion theirs.LawfulTable tables → theirs.LawfulOthers names repeated os → AllByRecursion (λ (o : Alternative). LawfulLeaf repeated o.leaf) (map (alternative tables scope) os)
 others_kept tables names scope repeated [] t h = tt
 others_kept tables names scope repeated (o ∷ os) t h = (leaf_kept tables names scope repeated o.leaf t h.0, others_kept tables names scope repeated os t h.1)
 
-at_kept : (tables : List TableValue) (names : List (List ℕ)) (scope : List Element) (repeated : Bool) (ls : List raw.LeafValue) → AllByRecursion theirs.LawfulTable tables → AllByRecursion (theirs.LawfulLeafValue names repeated) ls → AllByRecursion (LawfulAt repeated) (map (at_leaf tables scope) ls)
+at_kept : (tables : List raw.TableValue) (names : List (List ℕ)) (scope : List Element) (repeated : Bool) (ls : List raw.LeafValue) → AllByRecursion theirs.LawfulTable tables → AllByRecursion (theirs.LawfulLeafValue names repeated) ls → AllByRecursion (LawfulAt repeated) (map (at_leaf tables scope) ls)
 at_kept tables names scope repeated [] t h = tt
 at_kept tables names scope repeated (l ∷ ls) t h = (record { comp = h.0.0.comp.0; sub = h.0.0.sub.0; each = (leaf_kept tables names scope repeated l.leaf t h.0.1, others_kept tables names scope repeated l.others t h.0.2) }, at_kept tables names scope repeated ls t h.1)
 
-same_places : (tables : List TableValue) (scope : List Element) (ls : List raw.LeafValue) → places (map (at_leaf tables scope) ls) ≡ theirs.places ls
+same_places : (tables : List raw.TableValue) (scope : List Element) (ls : List raw.LeafValue) → places (map (at_leaf tables scope) ls) ≡ theirs.places ls
 same_places tables scope [] = refl
 same_places tables scope (l ∷ ls) = ap (λ ps. l.place ∷ ps) (same_places tables scope ls)
 
-leaves_kept : (tables : List TableValue) (names : List (List ℕ)) (scope : List Element) (repeated : Bool) (ls : List raw.LeafValue) → AllByRecursion theirs.LawfulTable tables → theirs.LawfulLeaves names repeated ls → LawfulLeaves repeated (map (at_leaf tables scope) ls)
+leaves_kept : (tables : List raw.TableValue) (names : List (List ℕ)) (scope : List Element) (repeated : Bool) (ls : List raw.LeafValue) → AllByRecursion theirs.LawfulTable tables → theirs.LawfulLeaves names repeated ls → LawfulLeaves repeated (map (at_leaf tables scope) ls)
 leaves_kept tables names scope repeated ls t h = record { each = at_kept tables names scope repeated ls t h.each; distinct = subst Distinct (sym (same_places tables scope ls)) h.distinct }
 
-making_kept : (tables : List TableValue) (names : List (List ℕ)) (scope : List Element) (m : raw.Making) → AllByRecursion theirs.LawfulTable tables → theirs.LawfulMaking names m → LawfulMaking (making tables scope m)
-making_kept tables names scope (raw.Copies from) t h = tt
-making_kept tables names scope (raw.Firsts from c) t h = tt
+making_kept : (tables : List raw.TableValue) (names : List (List ℕ)) (scope : List Element) (m : raw.Making) → AllByRecursion theirs.LawfulTable tables → theirs.LawfulMaking names m → LawfulMaking (making tables scope m)
 making_kept tables names scope (raw.Repeats from c ls) t h = leaves_kept tables names scope true ls t h.2
 making_kept tables names scope (raw.Builds ls) t h = leaves_kept tables names scope false ls t h
+making_kept tables names scope m t h = tt
 
 -- ---- rules
 
-each_kept : (tables : List TableValue) (names : List (List ℕ)) (scope : List Element) (name label : List ℕ) (rs : List raw.RuleValue) → first_field name ≤ theirs.least_field label → AllByRecursion theirs.LawfulTable tables → AllByRecursion (theirs.LawfulRule names label) rs → AllByRecursion (LawfulRule name) (map (rule tables scope) rs)
+each_kept : (tables : List raw.TableValue) (names : List (List ℕ)) (scope : List Element) (name label : List ℕ) (rs : List raw.RuleValue) → first_field name ≤ theirs.least_field label → AllByRecursion theirs.LawfulTable tables → AllByRecursion (theirs.LawfulRule names label) rs → AllByRecursion (LawfulRule name) (map (rule tables scope) rs)
 each_kept tables names scope name label [] fair t h = tt
 each_kept tables names scope name label (r ∷ rs) fair t h =
     (record { field = omega (arith, fair, h.0.0.0); making = making_kept tables names scope r.making t h.0.1 }, each_kept tables names scope name label rs fair t h.1)
 
-same_fields : (tables : List TableValue) (scope : List Element) (rs : List raw.RuleValue) → map (λ (r : Rule). r.field) (map (rule tables scope) rs) ≡ theirs.rule_fields rs
+same_fields : (tables : List raw.TableValue) (scope : List Element) (rs : List raw.RuleValue) → map (λ (r : Rule). r.field) (map (rule tables scope) rs) ≡ theirs.rule_fields rs
 same_fields tables scope [] = refl
 same_fields tables scope (r ∷ rs) = ap (λ ns. r.field ∷ ns) (same_fields tables scope rs)
 
 -- ---- items
 
-items_kept : (tables : List TableValue) (names : List (List ℕ)) (scope : List Element) (nodes : Forest) (j : ℕ) (items : raw.Items) → AllByRecursion theirs.LawfulTable tables → theirs.LawfulItems names items → EachSegment Fair nodes → target_failures nodes j items ≡ [] → LawfulItems nodes (resolved_items tables scope nodes items)
+items_kept : (tables : List raw.TableValue) (names : List (List ℕ)) (scope : List Element) (nodes : Forest) (j : ℕ) (items : raw.Items) → AllByRecursion theirs.LawfulTable tables → theirs.LawfulItems names items → profiles.EachSegment Fair nodes → target_failures nodes j items ≡ [] → LawfulItems nodes (resolved_items tables scope nodes items)
 items_kept tables names scope nodes j raw.nothing t h f e = tt
 items_kept tables names scope nodes j (raw.segment s rest) t h f e =
     let p = segment_parts nodes j s rest e in
@@ -168,14 +162,14 @@ items_kept tables names scope nodes j (raw.flat w items rest) t h f e =
 -- ---- the map
 
 -- no failures of the rules on labels, none of target labels
-targets_of : (from to : ProfileValue) (m : MapValue) → naming_failures from to m ≡ [] → target_failures to.nodes 0 m.items ≡ []
+targets_of : (from to : ProfileValue) (m : raw.MapValue) → naming_failures from to m ≡ [] → target_failures to.nodes 0 m.items ≡ []
 targets_of from to m e = (nil_both _ (target_failures to.nodes 0 m.items) e).1
 
 -- where the rules on labels hold, each item gives a node of its level, in their order
-pub placed_items : (from to : ProfileValue) (m : MapValue) → theirs.Lawful m → naming_failures from to m ≡ [] → are_placed to.nodes 0 (resolved from to m).items ≡ true
+pub placed_items : (from to : ProfileValue) (m : raw.MapValue) → theirs.Lawful m → naming_failures from to m ≡ [] → are_placed to.nodes 0 (resolved from to m).items ≡ true
 placed_items from to m h e = placed_where_named m.tables (theirs.table_names m.tables) (the_whole from.nodes ∷ []) to.nodes m.items h.items (targets_of from to m e)
 
 -- and what every map keeps is kept
-pub lawful_items : (from to : ProfileValue) (m : MapValue) → theirs.Lawful m → profiles.WellFormed to → naming_failures from to m ≡ [] → LawfulItems to.nodes (resolved from to m).items
+pub lawful_items : (from to : ProfileValue) (m : raw.MapValue) → theirs.Lawful m → profiles.WellFormed to → naming_failures from to m ≡ [] → LawfulItems to.nodes (resolved from to m).items
 lawful_items from to m h formed e =
     items_kept m.tables (theirs.table_names m.tables) (the_whole from.nodes ∷ []) to.nodes 0 m.items h.tables h.items (fair_all (profiles.table_names to.tables) to.nodes formed.segments formed.headed) (targets_of from to m e)

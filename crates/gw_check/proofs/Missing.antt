@@ -11,7 +11,7 @@ use Rattle.gw_check.specs.declared.accounted.Accounted.{Accounted}
 use Rattle.gw_check.specs.declared.accounted.FieldAt.{FieldAt}
 use Rattle.gw_maplang.specs.Shapes.{TableValue}
 use Rattle.gw_resolve.specs.Resolved.{Items, Drop}
-use Rattle.gw_check.specs.Reads.{SourceField, reads, is_read, drops_field, drops_element, missed_within, passed_over}
+use Rattle.gw_check.specs.Reads.{SourceField, reads, is_read, drops_field, missed_within, passed_over}
 use Rattle.gw_check.specs.declared.site.Site as declared
 use Rattle.gw_check.specs.declared.site.Origin as origins
 use Rattle.gw_check.specs.Seen.{origin, all_sites}
@@ -26,11 +26,7 @@ any_tables tables (s ∷ more) at n = ap₂ (λ a b. a || b) (by s.origin) (any_
   where
     by : (o : origins.Origin) → reads (origin [] o) at n ≡ reads (origin tables o) at n
     by origins.TheVariants.Unsaid = refl
-    by (origins.TheVariants.Text octets) = refl
-    by (origins.TheVariants.Read from) = refl
-    by (origins.TheVariants.Repeated from) = refl
-    by (origins.TheVariants.LookedUp name from) = refl
-    by (origins.TheVariants.Dated digits from) = refl
+    by o = refl
 
 -- none were found before
 pub missed_fields : (tables : List TableValue) (items : Items) (made : List declared.Site) (drops : List Drop) (known : Accounted) (nodes : Forest) (none found : List FieldAt) → Accounts known (all_sites [] made) drops → all_sites tables made ≡ sites items → none ≡ [] →

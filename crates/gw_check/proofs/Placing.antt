@@ -1,14 +1,13 @@
 -- Where the rules on labels hold, items stand in the order of their nodes, and keep what every map keeps.
-use Rattle.std.proofs.Common.{◌≡◌, ℕ, suc, ◌≤◌, inl, inr, Bool, true, false, List, [], ◌∷◌, ◌++◌, Option, Some, None, refl, sym, ap, ap₂, ◌∙◌, subst, arith}
-use Rattle.std.specs.Prelude.{if◌then◌else◌, option_map, nat_lt, nat_le, ◌==◌, ◌&&◌, not, bytes_eq, unwrap_or, option_and_then}
+use Rattle.std.proofs.Common.{◌≡◌, ℕ, suc, ◌≤◌, Bool, true, false, List, [], ◌∷◌, ◌++◌, Option, Some, None, refl, sym, ap, ap₂, ◌∙◌, subst, arith}
+use Rattle.std.specs.Prelude.{if◌then◌else◌, option_map, nat_lt, nat_le, ◌&&◌, not, bytes_eq, unwrap_or, option_and_then}
 use Rattle.std.specs.List.{list_all}
 use Rattle.std.proofs.lemmas.Bool.{le-leb, eq-eqb}
-use Rattle.std.proofs.lemmas.Bool.Decides.{leb_tells}
+use Rattle.std.proofs.lemmas.List.Folds.{list_all-append}
 use Rattle.std.proofs.lemmas.Slice.Eq.{bytes_eq-Decides}
-use Rattle.gw_profile.proofs.Facts.{both, not_false}
+use Rattle.gw_profile.proofs.Facts.{both, not_false, lt_is}
 use Rattle.gw_profile.specs.Shapes.{Forest}
 use Rattle.gw_maplang.specs.Shapes as raw
-use Rattle.gw_maplang.specs.Shapes.{TableValue}
 use Rattle.gw_maplang.specs.Lawful as theirs
 use Rattle.gw_resolve.specs.Failures.{Mark, at_line, Failure, fails, or_later}
 use Rattle.gw_resolve.specs.Places.{Element, child, nodes_of_child, within}
@@ -23,9 +22,9 @@ later_nil : (a b : List Failure) → or_later a b ≡ [] → (a ≡ []) × (b �
 later_nil [] b e = (refl, e)
 later_nil (f ∷ a) b e = absurd (cc)
 
-pub nil_both : (a b : List Failure) → a ++ b ≡ [] → (a ≡ []) × (b ≡ [])
+pub nil_both : {A : Type 0} (a b : List A) → a ++ b ≡ [] → (a ≡ []) × (b ≡ [])
 nil_both [] b e = (refl, e)
-nil_both (f ∷ a) b e = absurd (cc)
+nil_both (x ∷ a) b e = absurd (cc)
 
 pub not_broken : (rule : ℕ) (mark : Mark) (broken : Bool) → fails rule mark broken ≡ [] → broken ≡ false
 not_broken rule mark true e = absurd (cc)
@@ -56,7 +55,7 @@ named_by nodes is_kind j label (Some k) none at kind order = record {
   number = k;
   at = at;
   kind = kind;
-  order = elim (leb_tells (suc k) j) [ inl h ↦ absurd (cc) | inr h ↦ omega (arith, h.1) ];
+  order = omega (arith, lt_is (suc k) j order);
 }
 
 pub named : (nodes : Forest) (is_kind : Option Element → Bool) (j line : ℕ) (label : List ℕ) → is_kind None ≡ false → label_failures nodes is_kind j line label ≡ [] → Named nodes is_kind j label
@@ -70,19 +69,14 @@ number_is nodes label k j e = ap (λ o. unwrap_or o j) e
 
 -- ---- items that have labels
 
-list_nil : (a b : List (List ℕ)) → a ++ b ≡ [] → a ≡ []
-list_nil [] b e = refl
-list_nil (x ∷ a) b e = absurd (cc)
-
 first_of_both : (a b : List (List ℕ)) → (a ≡ [] → ⊥) → first_or (a ++ b) ≡ first_or a
 first_of_both [] b f = absurd (f refl)
 first_of_both (x ∷ a) b f = refl
 
 pub some_labels : (names : List (List ℕ)) (items : raw.Items) → theirs.LawfulItems names items → (items ≡ raw.nothing → ⊥) → labels items ≡ [] → ⊥
 some_labels names raw.nothing h some e = absurd (some refl)
-some_labels names (raw.segment s rest) h some e = absurd (cc)
-some_labels names (raw.group g items rest) h some e = absurd (cc)
-some_labels names (raw.flat f items rest) h some e = some_labels names items h.1 h.0.some (list_nil (labels items) (labels rest) e)
+some_labels names (raw.flat f items rest) h some e = some_labels names items h.1 h.0.some (nil_both (labels items) (labels rest) e).0
+some_labels names items h some e = absurd (cc)
 
 -- ---- the failures of each kind of item
 
@@ -123,7 +117,7 @@ flat_parts nodes j f items rest e =
     record { one = not_false _ (not_broken 3 (at_line f.line) _ r.0); order = not_broken 3 (at_line f.line) _ r.1; inner = q.1; others = p.1 }
 
 not_less : (j m k : ℕ) → nat_lt m j ≡ false → m ≡ k → j ≤ k
-not_less j m k e is = elim (leb_tells (suc m) j) [ inl h ↦ absurd (cc) | inr h ↦ omega (arith, h.1, is) ]
+not_less j m k e is = omega (arith, lt_is (suc m) j e, is)
 
 -- the first label names a node
 first_named : (names : List (List ℕ)) (nodes : Forest) (j : ℕ) (items : raw.Items) → theirs.LawfulItems names items → (items ≡ raw.nothing → ⊥) → target_failures nodes j items ≡ [] → (k : ℕ) × (labelled nodes (first_or (labels items)) ≡ Some k)
@@ -137,20 +131,15 @@ first_named names nodes j (raw.flat f items rest) h some e =
     (n.0, ap (labelled nodes) (first_of_both (labels items) (labels rest) (some_labels names items h.1 h.0.some)) ∙ n.1)
 
 -- the number of the first node
-first_is : (tables : List TableValue) (scope : List Element) (names : List (List ℕ)) (nodes : Forest) (items : raw.Items) → theirs.LawfulItems names items → (items ≡ raw.nothing → ⊥) → first_child (resolved_items tables scope nodes items) ≡ Some (node_or 0 nodes (first_or (labels items)))
+first_is : (tables : List raw.TableValue) (scope : List Element) (names : List (List ℕ)) (nodes : Forest) (items : raw.Items) → theirs.LawfulItems names items → (items ≡ raw.nothing → ⊥) → first_child (resolved_items tables scope nodes items) ≡ Some (node_or 0 nodes (first_or (labels items)))
 first_is tables scope names nodes raw.nothing h some = absurd (some refl)
-first_is tables scope names nodes (raw.segment s rest) h some = refl
-first_is tables scope names nodes (raw.group g items rest) h some = refl
 first_is tables scope names nodes (raw.flat f items rest) h some =
     first_is tables (within scope (place_or scope f.walk.path)) names nodes items h.1 h.0.some
     ∙ ap (λ l. Some (node_or 0 nodes l)) (sym (first_of_both (labels items) (labels rest) (some_labels names items h.1 h.0.some)))
+first_is tables scope names nodes items h some = refl
 
 all_both : (test : List ℕ → Bool) (a b : List (List ℕ)) → list_all test (a ++ b) ≡ true → (list_all test a ≡ true) × (list_all test b ≡ true)
-all_both test [] b e = (refl, e)
-all_both test (x ∷ a) b e =
-    let p = both (test x) (list_all test (a ++ b)) e in
-    let q = all_both test a b p.1 in
-    (ap₂ (λ s t. s && t) p.0 q.0, q.1)
+all_both test a b e = both (list_all test a) (list_all test b) (sym (list_all-append test a b) ∙ e)
 
 one_all : (ls : List (List ℕ)) → are_one ls ≡ true → list_all (bytes_eq (first_or ls)) ls ≡ true
 one_all [] e = refl
@@ -161,7 +150,7 @@ record Fit (nodes : Forest) (made : Items) (items : raw.Items) : Type 0 where
   placed : (j : ℕ) → target_failures nodes j items ≡ [] → are_placed nodes j made ≡ true
   same : (j k : ℕ) (label : List ℕ) → target_failures nodes j items ≡ [] → list_all (bytes_eq label) (labels items) ≡ true → node_or 0 nodes label ≡ k → all_for nodes k made ≡ true
 
-fit : (tables : List TableValue) (names : List (List ℕ)) (scope : List Element) (nodes : Forest) (items : raw.Items) → theirs.LawfulItems names items → Fit nodes (resolved_items tables scope nodes items) items
+fit : (tables : List raw.TableValue) (names : List (List ℕ)) (scope : List Element) (nodes : Forest) (items : raw.Items) → theirs.LawfulItems names items → Fit nodes (resolved_items tables scope nodes items) items
 fit tables names scope nodes raw.nothing h = record { placed = λ j e. refl; same = λ j k label e all is. refl }
 fit tables names scope nodes (raw.segment s rest) h =
     let behind = fit tables names scope nodes rest h.1 in
@@ -184,12 +173,12 @@ fit tables names scope nodes (raw.group g items rest) h =
     let behind = fit tables names scope nodes rest h.2 in
     let others = resolved_items tables scope nodes rest in
     let inner = within scope (place_or scope g.walk.path) in
+    let below = fit tables names inner (nodes_of_child nodes (node_or 0 nodes g.label)) items h.1 in
+    let made = resolved_items tables inner (nodes_of_child nodes (node_or 0 nodes g.label)) items in
     record {
       placed = λ j e.
           let p = group_parts nodes j g items rest e in
           let n = named nodes is_group j g.line g.label refl p.label in
-          let below = fit tables names inner (nodes_of_child nodes (node_or 0 nodes g.label)) items h.1 in
-          let made = resolved_items tables inner (nodes_of_child nodes (node_or 0 nodes g.label)) items in
           let same = number_is nodes g.label n.number j n.at ∙ sym (number_is nodes g.label n.number 0 n.at) in
           let within_it = below.placed 0 (subst (λ c. target_failures (nodes_of_child nodes c) 0 items ≡ []) same p.inner) in
           subst (λ c. nat_le j c && is_group (child nodes c) && are_placed (nodes_of_child nodes c) 0 made && are_placed nodes c others ≡ true) (sym (number_is nodes g.label n.number 0 n.at))
@@ -200,8 +189,6 @@ fit tables names scope nodes (raw.group g items rest) h =
           let a = both (bytes_eq label g.label) (list_all (bytes_eq label) (labels rest)) all in
           let here : node_or 0 nodes g.label ≡ k = ap (node_or 0 nodes) (sym ((bytes_eq-Decides label g.label).0 a.0)) ∙ is in
           let number : n.number ≡ k = sym (number_is nodes g.label n.number 0 n.at) ∙ here in
-          let below = fit tables names inner (nodes_of_child nodes (node_or 0 nodes g.label)) items h.1 in
-          let made = resolved_items tables inner (nodes_of_child nodes (node_or 0 nodes g.label)) items in
           let same = number_is nodes g.label n.number j n.at ∙ sym (number_is nodes g.label n.number 0 n.at) in
           let within_it = below.placed 0 (subst (λ c. target_failures (nodes_of_child nodes c) 0 items ≡ []) same p.inner) in
           four _ _ _ _ (eq-eqb (node_or 0 nodes g.label) k here) (subst (λ c. is_group (child nodes c) ≡ true) number n.kind)
@@ -230,5 +217,5 @@ fit tables names scope nodes (raw.flat f items rest) h =
     }
 
 -- each item gives a node of its level, in their order
-pub placed_where_named : (tables : List TableValue) (names : List (List ℕ)) (scope : List Element) (nodes : Forest) (items : raw.Items) → theirs.LawfulItems names items → target_failures nodes 0 items ≡ [] → are_placed nodes 0 (resolved_items tables scope nodes items) ≡ true
+pub placed_where_named : (tables : List raw.TableValue) (names : List (List ℕ)) (scope : List Element) (nodes : Forest) (items : raw.Items) → theirs.LawfulItems names items → target_failures nodes 0 items ≡ [] → are_placed nodes 0 (resolved_items tables scope nodes items) ≡ true
 placed_where_named tables names scope nodes items h e = (fit tables names scope nodes items h).placed 0 e

@@ -1,6 +1,6 @@
 -- The nodes of a level, one after the other.
-use Rattle.std.proofs.lemmas.List.{drop_all, take_all, length-drop}
-use Rattle.std.proofs.Common.{◌≡◌, ℕ, zero, suc, ◌+◌, ◌-◌, ◌≤◌, ◌<◌, List, [], ◌∷◌, ◌++◌, length, take, drop, drop-cons, get_or, refl, sym, ap, ◌∙◌, arith}
+use Rattle.std.proofs.lemmas.List.{drop-drop, take_all, length-drop}
+use Rattle.std.proofs.Common.{◌≡◌, ℕ, suc, ◌+◌, ◌-◌, ◌≤◌, ◌<◌, List, ◌++◌, length, take, drop, drop-cons, get_or, refl, sym, ap, ◌∙◌, arith}
 use Rattle.gw_profile.specs.declared.node.Node.{Node, Seg, Group'}
 use Rattle.std.specs.Global.{Vec}
 use Rattle.gw_profile.specs.Nodes.{card_of}
@@ -11,18 +11,12 @@ use Rattle.gw_resolve.specs.declared.resolved.Item.{Item}
 use Rattle.gw_resolve.specs.declared.failure.Failure as declared
 use Rattle.gw_resolve.specs.Places.{Element}
 use Rattle.gw_resolve.specs.Resolved.{Items}
-use Rattle.gw_check.specs.Counts.{items_count}
-use Rattle.gw_check.specs.Levels.{its, beyond, node_mark, node_failures, level_failures}
+use Rattle.gw_check.specs.Levels.{its, beyond, node_mark, node_failures, level_failures, items_count}
 use Rattle.gw_resolve.specs.Failures.{Mark, Failure}
 use Rattle.gw_check.specs.own.ItemByItem.{Leads}
 use Rattle.gw_resolve.specs.Seen.{failures, all_items}
 use Rattle.gw_check.specs.Found.{NotesNode, usage_of}
 use Rattle.gw_resolve.proofs.Noting.{added_one}
-
-pub drop_drop : {X : Type 0} (a b : ℕ) (l : List X) → drop b (drop a l) ≡ drop (a + b) l
-drop_drop zero b l = let same : 0 + b ≡ b = omega arith in ap (λ n. drop n l) (sym same)
-drop_drop (suc a) b [] = drop_all b [] (omega arith) ∙ sym (drop_all (suc a + b) [] (omega arith))
-drop_drop (suc a) b (x ∷ l) = let same : suc (a + b) ≡ suc a + b = omega arith in drop_drop a b l ∙ ap (λ n. drop n (x ∷ l)) same
 
 one_node : (scope : List Element) (holder j : ℕ) (n : Node) (rest : Forest) (is : Items) → level_failures scope holder j (node_forest n rest) is ≡ node_failures (node_mark holder j (its j is)) (usage_of n) (card_of n) (items_count scope (its j is)) (its j is) ++ level_failures scope holder (suc j) rest (beyond j is)
 one_node scope holder j (Seg s) rest is = refl
@@ -49,7 +43,7 @@ module _ (scope : List Element) (holder : ℕ) (nodes : List Node) (items : List
             (notes tables
             ∙ ap (λ k. failures old.items ++ node_failures k (usage_of n) (card_of n) (items_count scope (all_items tables (take count (drop done items)))) (all_items tables (take count (drop done items)))) (marked tables)
             ∙ ap (λ (i : Items). failures old.items ++ node_failures (node_mark holder j i) (usage_of n) (card_of n) (items_count scope i) i) (leads.these tables))
-            ∙ ap (λ i. failures new.items ++ level_failures scope holder (suc j) (forest (drop (j + 1) nodes)) i) (sym (leads.others tables) ∙ ap (all_items tables) behind)
+            ∙ ap (λ i. failures new.items ++ level_failures scope holder (suc j) (forest (drop (j + 1) nodes)) i) (sym (leads.others tables) ∙ ap (all_items tables) (drop-drop count done items))
             ∙ ap (λ k. failures new.items ++ level_failures scope holder k (forest (drop (j + 1) nodes)) (all_items tables (drop (done + count) items))) next;
       }
     where
@@ -58,9 +52,6 @@ module _ (scope : List Element) (holder : ℕ) (nodes : List Node) (items : List
 
       step : forest (drop j nodes) ≡ node_forest n (forest (drop (j + 1) nodes))
       step = ap forest (drop-cons nodes j n low) ∙ ap (λ x. node_forest x (forest (drop (suc j) nodes))) (sym at) ∙ ap (λ k. node_forest n (forest (drop k nodes))) next
-
-      behind : drop count (drop done items) ≡ drop (done + count) items
-      behind = drop_drop done count items
 
 -- what is lent from there on
 pub from_there : {X : Type 0} (l : List X) (done : ℕ) → take (length l - done) (drop done l) ≡ drop done l

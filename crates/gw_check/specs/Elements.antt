@@ -1,11 +1,11 @@
 -- The elements of a profile that are named by their numbers, and the texts that a profile lists for them (HL7 v2.5.1 chapter 2, 2.12: table, length).
-use Rattle.std.specs.Prelude.{ℕ, Bool, ◌&&◌, not, List, [], ◌∷◌, find, Option, Some, None, is_some, unwrap_or}
+use Rattle.std.specs.Prelude.{ℕ, Bool, ◌&&◌, not, List, [], ◌∷◌, find, Option, is_some, unwrap_or}
 use Rattle.gw_profile.specs.declared.shape.Count.{Count}
 use Rattle.gw_profile.specs.Fault.{is_among}
 use Rattle.gw_profile.specs.Shapes.{SubValue, CompValue, FieldValue, Forest, TableValue}
 use Rattle.gw_profile.specs.Numbered.{field_of, comp_of, sub_of}
-use Rattle.gw_profile.specs.Value.{table_of}
 use Rattle.gw_maplang.specs.Shapes.{second_of}
+use Rattle.gw_leaves.specs.Components.{table_values}
 use Rattle.gw_leaves.specs.Leaves.{is_short}
 use Rattle.gw_check.specs.declared.texts.Taker as takers
 use Rattle.gw_resolve.specs.Places.{child, nodes_of_child, fields_of}
@@ -34,11 +34,7 @@ sub_at nodes at field comp sub = sub_of (comp_at nodes at field comp) sub
 
 -- the values of the table that a subcomponent names
 abbrev pub listed : List TableValue → SubValue → List (List ℕ)
-listed tables s = go s.table
-  where
-    go : Option (List ℕ) → List (List ℕ)
-    go None = []
-    go (Some name) = unwrap_or (table_of name tables) []
+listed tables s = unwrap_or (table_values tables s) []
 
 -- what takes a text: a table that lists it, rows of which one is for it, or a length
 abbrev pub takes : takers.Taker → List ℕ → Bool

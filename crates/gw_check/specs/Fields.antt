@@ -2,7 +2,7 @@
 use Rattle.std.specs.Prelude.{ℕ, Bool, true, false, ◌&&◌, not, nat_lt, if◌then◌else◌, List, [], ◌++◌, flat_map, Option, Some, None}
 use Rattle.gw_profile.specs.declared.shape.Usage.{Usage}
 use Rattle.gw_profile.specs.declared.shape.Card.{Card}
-use Rattle.gw_profile.specs.declared.shape.Usage.TheVariants.{R, RE, O, X}
+use Rattle.gw_profile.specs.declared.shape.Usage.TheVariants.{RE}
 use Rattle.gw_profile.specs.Shapes.{FieldValue, ProfileValue}
 use Rattle.gw_validate.specs.Breaches.{is_forbidden}
 use Rattle.gw_resolve.specs.Intervals.{Interval, is_never, is_within}
@@ -16,10 +16,8 @@ use Rattle.gw_leaves.specs.Components.{field_mark, making_failures, rule_lookups
 -- ---- how often something comes
 
 abbrev pub is_expected : Usage → Bool
-is_expected R = false
 is_expected RE = true
-is_expected O = false
-is_expected X = false
+is_expected usage = false
 
 -- what comes so often, as the program counts it, and whether nothing gives it
 abbrev pub counted : Bool → Interval → Mark → Mark

@@ -1,5 +1,5 @@
 -- The failures of a level and of its items, as the program finds them.
-use Rattle.std.specs.Prelude.{ℕ, ◌+◌, List, [], map, option_map}
+use Rattle.std.specs.Prelude.{ℕ, List, map, option_map}
 use Rattle.gw_profile.specs.declared.shape.Usage.{Usage}
 use Rattle.gw_profile.specs.Shapes.{Forest}
 use Rattle.gw_profile.specs.declared.node.Node.{Node, Seg, Group'}
@@ -12,13 +12,11 @@ use Rattle.gw_resolve.specs.Failures.{Mark}
 use Rattle.gw_resolve.specs.Places.{Element, child, fields_of, within_if}
 use Rattle.gw_check.specs.Fields.{segment_failures}
 use Rattle.gw_resolve.specs.declared.resolved.SegmentItem.{SegmentItem}
-use Rattle.gw_check.specs.Counts.{items_count}
 use Rattle.gw_profile.specs.Seen.{profile_value}
 use Rattle.gw_leaves.specs.Context.{ContextValue}
-use Rattle.gw_check.specs.Levels.{sources, node_failures, level_failures, items_failures}
-use Rattle.gw_resolve.specs.Resolved.{Items, no_items, segment_item, group_item, flat_item}
-use Rattle.gw_resolve.specs.Noted.{Notes}
-use Rattle.gw_resolve.specs.Seen.{place, rule, with_item, all_items}
+use Rattle.gw_check.specs.Levels.{sources, node_failures, level_failures, items_failures, items_count}
+use Rattle.gw_resolve.specs.Resolved.{no_items}
+use Rattle.gw_resolve.specs.Seen.{Notes, place, rule, with_item, all_items}
 
 abbrev pub usage_of : Node → Usage
 usage_of (Seg s) = s.usage
@@ -41,19 +39,6 @@ NotesItems s scope nodes is old new =
 abbrev pub NotesItem : ContextValue → List Element → Forest → Item → Vec declared.Failure → Vec declared.Failure → Type 0
 NotesItem s scope nodes i old new =
     Notes old new (items_failures (profile_value s.source) (profile_value s.target) scope nodes (with_item s.map.tables i no_items))
-
--- how many items there are, at any depth
-abbrev pub weight : Items → ℕ
-weight no_items = 0
-weight (segment_item s rest) = 1 + weight rest
-weight (group_item g items rest) = 1 + weight items + weight rest
-weight (flat_item f items rest) = 1 + weight items + weight rest
-
-abbrev pub weight_one : Item → ℕ
-weight_one i = weight (with_item [] i no_items)
-
-abbrev pub weight_all : List Item → ℕ
-weight_all is = weight (all_items [] is)
 
 -- with those of the segments that an item gives
 abbrev pub NotesSegment : ContextValue → List Element → Forest → SegmentItem → Vec declared.Failure → Vec declared.Failure → Type 0

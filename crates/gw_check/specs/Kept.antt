@@ -2,9 +2,7 @@
 use Rattle.std.specs.Prelude.{◌≡◌, List, []}
 use Rattle.gw_profile.specs.WellFormed.{WellFormed}
 use Rattle.gw_profile.specs.Seen as profiles
-use Rattle.gw_profile.specs.Seen.{profile_value}
 use Rattle.gw_maplang.specs.Seen as maps
-use Rattle.gw_maplang.specs.Seen.{map_value}
 use Rattle.gw_resolve.specs.declared.resolved.Item.{Item}
 use Rattle.gw_resolve.specs.Resolved.{Resolved}
 use Rattle.gw_resolve.specs.Naming.{resolved}
@@ -20,11 +18,11 @@ pub record CheckedValue : Type 0 where
 
 -- the map without labels
 abbrev pub resolved_map : CheckedValue → Resolved
-resolved_map c = resolved (profile_value c.source) (profile_value c.target) (map_value c.map)
+resolved_map c = resolved (profiles.profile_value c.source) (profiles.profile_value c.target) (maps.map_value c.map)
 
 -- no rule fails, and the items are those of the map
 pub record IsChecked (c : CheckedValue) : Type 0 where
-  pub source : WellFormed (profile_value c.source)
-  pub target : WellFormed (profile_value c.target)
-  pub none_fails : all_failures (profile_value c.source) (profile_value c.target) (map_value c.map) ≡ []
+  pub source : WellFormed (profiles.profile_value c.source)
+  pub target : WellFormed (profiles.profile_value c.target)
+  pub none_fails : all_failures (profiles.profile_value c.source) (profiles.profile_value c.target) (maps.map_value c.map) ≡ []
   pub items : all_items c.map.tables c.items ≡ (resolved_map c).items

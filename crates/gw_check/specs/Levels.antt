@@ -3,11 +3,11 @@ use Rattle.std.specs.Prelude.{ℕ, suc, Bool, true, false, ◌==◌, if◌then�
 use Rattle.gw_profile.specs.declared.shape.Usage.{Usage}
 use Rattle.gw_profile.specs.declared.shape.Card.{Card}
 use Rattle.gw_profile.specs.Shapes.{ProfileValue, Forest, nothing, segment, group}
-use Rattle.gw_resolve.specs.Intervals.{Interval}
-use Rattle.gw_resolve.specs.Places.{Element, child, nodes_of_child, fields_of, within, within_if}
+use Rattle.gw_resolve.specs.Intervals.{Interval, never, sum, product}
+use Rattle.gw_resolve.specs.Places.{Element, child, nodes_of_child, fields_of, count_at, count_if, within, within_if}
 use Rattle.gw_resolve.specs.Resolved.{Items, no_items, segment_item, group_item, flat_item, first_child}
+use Rattle.gw_leaves.specs.Counts.{chosen_count}
 use Rattle.gw_leaves.specs.Leaves.{Sources}
-use Rattle.gw_check.specs.Counts.{items_count}
 use Rattle.gw_resolve.specs.Failures.{Mark, Failure, at_line}
 use Rattle.gw_check.specs.Fields.{often_failures, segment_failures}
 
@@ -40,11 +40,17 @@ node_mark holder j (flat_item f items rest) = at_line f.line
 
 abbrev pub has_no_item : Items → Bool
 has_no_item no_items = true
-has_no_item (segment_item s rest) = false
-has_no_item (group_item g items rest) = false
-has_no_item (flat_item f items rest) = false
+has_no_item items = false
 
 -- ---- a node
+
+-- how often its items come
+abbrev pub items_count : List Element → Items → Interval
+items_count scope no_items = never
+items_count scope (segment_item s rest) = sum (chosen_count s.condition (count_if scope s.place)) (items_count scope rest)
+items_count scope (group_item g items rest) = sum (chosen_count g.condition (count_at scope g.place)) (items_count scope rest)
+items_count scope (flat_item f items rest) =
+    sum (product (chosen_count f.condition (count_at scope f.place)) (items_count (within scope f.place) items)) (items_count scope rest)
 
 abbrev pub node_failures : Mark → Usage → Card → Interval → Items → List Failure
 node_failures mark usage card count items = often_failures mark count usage card (has_no_item items)

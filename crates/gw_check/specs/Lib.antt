@@ -1,4 +1,3 @@
-pub mod Counts
 pub mod Fields
 pub mod Levels
 pub mod Sites

@@ -2,12 +2,12 @@
 use Rattle.std.specs.Prelude.{ℕ, suc, Bool, true, false, ◌==◌, ◌&&◌, ◌||◌, not, if◌then◌else◌, List, [], ◌∷◌, ◌++◌, flat_map, Option, Some, None, bytes_eq}
 use Rattle.std.specs.List.{list_any}
 use Rattle.gw_profile.specs.declared.shape.Usage.{Usage}
-use Rattle.gw_profile.specs.declared.shape.Usage.TheVariants.{R, RE, O, X}
+use Rattle.gw_profile.specs.declared.shape.Usage.TheVariants.{R, RE}
 use Rattle.gw_profile.specs.Shapes.{FieldValue, SegmentValue, Forest, nothing, segment, group}
 use Rattle.gw_validate.specs.Breaches.{is_forbidden}
 use Rattle.gw_resolve.specs.Positions.{Position}
 use Rattle.gw_resolve.specs.Resolved.{Items, Drop}
-use Rattle.gw_check.specs.Sites.{Origin, unsaid, text, read, repeated, given, cut, Site, sites}
+use Rattle.gw_check.specs.Sites.{Origin, read, repeated, given, cut, Site, sites}
 
 -- a field of the segment at a position
 pub record SourceField : Type 0 where
@@ -22,12 +22,11 @@ is_field here number at field = number == field && bytes_eq here at
 
 -- a line that makes something of this reads the field
 abbrev pub reads : Origin → Position → ℕ → Bool
-reads unsaid at field = false
-reads (text octets) at field = false
 reads (read from) at field = is_field from.at from.field at field
 reads (repeated from) at field = is_field from.at from.field at field
 reads (given rows from) at field = is_field from.at from.field at field
 reads (cut digits from) at field = is_field from.at from.field at field
+reads other at field = false
 
 abbrev pub is_read : List Site → Position → ℕ → Bool
 is_read made at field = list_any (λ s. reads s.origin at field) made
@@ -59,8 +58,7 @@ drops_element drops at = list_any (λ d. is_dropped_whole d.steps d.field at) dr
 abbrev pub may_hold : Usage → Bool
 may_hold R = true
 may_hold RE = true
-may_hold O = false
-may_hold X = false
+may_hold usage = false
 
 abbrev pub is_missed : (Position → ℕ → Bool) → Position → FieldValue → Bool
 is_missed known at f = may_hold f.usage && not (known at f.number)

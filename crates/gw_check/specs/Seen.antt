@@ -1,7 +1,7 @@
 -- What the program holds of the lines of a map, without where it lies in memory.
 use Rattle.std.specs.Prelude.{◌≡◌, ◌++◌, ℕ, List, [], ◌∷◌, map, Option, option_map, unwrap_or, Result, IfOk, OnOk}
 use denote.Ref.{Bor}
-use Rattle.gw_maplang.specs.Shapes.{TableValue, Rows, table_of}
+use Rattle.gw_maplang.specs.Shapes.{TableValue, table_of}
 use Rattle.gw_resolve.specs.Naming.{no_rows}
 use Rattle.gw_resolve.specs.Resolved.{Reference, Alternative, SegmentItem}
 use Rattle.gw_resolve.specs.Positions.{Position}
@@ -17,16 +17,12 @@ use Rattle.gw_check.specs.declared.site.Site as declared
 abbrev pub spot : spots.ElementPath → Spot
 spot s = record { at = s.at.items; walked = s.walked; field = s.field; comp = s.comp; sub = s.sub }
 
--- the rows of the table of this name, none where there isn't one
-abbrev pub rows_of : List TableValue → List ℕ → Rows
-rows_of tables name = unwrap_or (table_of name tables) no_rows
-
 abbrev pub origin : List TableValue → origins.Origin → Origin
 origin tables origins.TheVariants.Unsaid = unsaid
 origin tables (origins.TheVariants.Text octets) = text octets.items
 origin tables (origins.TheVariants.Read from) = read (spot from)
 origin tables (origins.TheVariants.Repeated from) = repeated (spot from)
-origin tables (origins.TheVariants.LookedUp name from) = given (rows_of tables name.items) (spot from)
+origin tables (origins.TheVariants.LookedUp name from) = given (unwrap_or (table_of name.items tables) no_rows) (spot from)
 origin tables (origins.TheVariants.Dated digits from) = cut digits (spot from)
 
 -- the origin that was made, if any, whatever the map's tables are

@@ -10,7 +10,6 @@ use Rattle.gw_profile.specs.Value.{leaf_comp}
 use Rattle.gw_maplang.specs.Identity.{walk_all}
 use Rattle.gw_maplang.specs.declared.rule.LeafPlace.{LeafPlace}
 use Rattle.gw_maplang.specs.Shapes as raw
-use Rattle.gw_maplang.specs.Shapes.{MapValue, Row}
 use Rattle.gw_resolve.specs.Failures.{Mark, Failure, at_line}
 use Rattle.gw_check.specs.Fields.{counted}
 
@@ -85,7 +84,7 @@ abbrev dropped : ℕ → ℕ → raw.DropValue
 dropped line number = record { line = line; path = codes "PID" ∷ []; field = Some number }
 
 -- lines 1 to 11, or fewer where a row or the other value is left out
-abbrev sex_map : ℕ → List Row → Option (List ℕ) → MapValue
+abbrev sex_map : ℕ → List raw.Row → Option (List ℕ) → raw.MapValue
 sex_map behind rows other =
     record {
       name = codes "M";
@@ -101,14 +100,14 @@ sex_map behind rows other =
       drops = dropped (behind + 5) 3 ∷ dropped (behind + 6) 5 ∷ [];
     }
 
-abbrev row : List ℕ → List ℕ → Row
+abbrev row : List ℕ → List ℕ → raw.Row
 row first second = record { first = first; second = second }
 
-abbrev pub m1 : MapValue
+abbrev pub m1 : raw.MapValue
 m1 = sex_map 5 (row (codes "M") (codes "1") ∷ row (codes "F") (codes "2") ∷ []) (Some (codes "9"))
 
 -- without a row for F, and without another value
-abbrev pub m4 : MapValue
+abbrev pub m4 : raw.MapValue
 m4 = sex_map 3 (row (codes "M") (codes "1") ∷ []) None
 
 -- a profile without tables, of MSH and these nodes
@@ -116,7 +115,7 @@ abbrev bare : List ℕ → Count → Forest → ProfileValue
 bare name count nodes = record { name = name; count = count; tables = []; nodes = msh [] nodes }
 
 -- a map without tables and drops, of an MSH and these items
-abbrev plain : List ℕ → List ℕ → List ℕ → raw.Items → MapValue
+abbrev plain : List ℕ → List ℕ → List ℕ → raw.Items → raw.MapValue
 plain name source target items = record { name = name; source = source; target = target; line = 1; tables = []; items = item 2 (codes "MSH") (codes "MSH") [] items; drops = [] }
 
 -- next of kin and guarantors, and a target for both
@@ -126,7 +125,7 @@ kin = bare (codes "KIN") Octets (seg (codes "NK1") O (card 0 2) [] (seg (codes "
 abbrev pub contacts : ℕ → ProfileValue
 contacts most = bare (codes "CONTACTS") Octets (seg (codes "NK1") O (card 0 most) [] nothing)
 
-abbrev pub both_kinds : MapValue
+abbrev pub both_kinds : raw.MapValue
 both_kinds = plain (codes "BOTH") (codes "KIN") (codes "CONTACTS") (item 3 (codes "NK1") (codes "NK1") [] (item 4 (codes "NK1") (codes "GT1") [] raw.nothing))
 
 -- results in groups, and a target without
@@ -150,7 +149,7 @@ two_orders = orders (card 1 2)
 abbrev flat : ℕ → List ℕ → raw.Items → raw.Items → raw.Items
 flat line label items rest = raw.flat (record { line = line; walk = walk_all label }) items rest
 
-abbrev pub m3 : MapValue
+abbrev pub m3 : raw.MapValue
 m3 =
     plain (codes "M3") (codes "ORU") (codes "FLAT")
     (flat 3 (codes "PATIENT_RESULT") (flat 4 (codes "ORDER") (item 5 (codes "OBR") (codes "OBR") (copies 6 (codes "OBR") 1 ∷ []) raw.nothing) raw.nothing) raw.nothing)
@@ -166,7 +165,7 @@ s2 = four (codes "S2") Octets
 abbrev pub s3 : ProfileValue
 s3 = four (codes "S3") Characters
 
-abbrev pub m5 : MapValue
+abbrev pub m5 : raw.MapValue
 m5 = plain (codes "M5") (codes "S2") (codes "S3") (item 3 (codes "PID") (codes "PID") (copies 4 (codes "PID") 5 ∷ []) raw.nothing)
 
 -- the leaf of the name

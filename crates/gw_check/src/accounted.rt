@@ -56,12 +56,11 @@ fn add_site(alloc: Global, known: &mut Accounted, site: &Site) -> Result<(), All
     ensures { OnOk result (Gains known.old known.new (spec.reads (seen_site [] site.now).origin) no_element) }
 {
     match &site.origin {
-        Origin::Unsaid => Ok(()),
-        Origin::Text(_) => Ok(()),
-        Origin::Read(from) => add_field(alloc, known, &from.at, from.field),
-        Origin::Repeated(from) => add_field(alloc, known, &from.at, from.field),
-        Origin::LookedUp(_, from) => add_field(alloc, known, &from.at, from.field),
-        Origin::Dated(_, from) => add_field(alloc, known, &from.at, from.field),
+        Origin::Unsaid | Origin::Text(_) => Ok(()),
+        Origin::Read(from)
+        | Origin::Repeated(from)
+        | Origin::LookedUp(_, from)
+        | Origin::Dated(_, from) => add_field(alloc, known, &from.at, from.field),
     }
 }
 

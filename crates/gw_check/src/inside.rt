@@ -56,11 +56,11 @@ fn check_item(
             let inner = enter(alloc, scope, &group.place)?;
             let below = nodes_within(nodes, group.child);
             check_level(alloc, found, &inner, group.line, below, &group.items)?;
-            check_items(alloc, found, context, &inner, below, &group.items)
+            check_items(alloc, found, context, &inner, &group.items, below)
         }
         Item::Flat(flat) => {
             let inner = enter(alloc, scope, &flat.place)?;
-            check_items(alloc, found, context, &inner, nodes, &flat.items)
+            check_items(alloc, found, context, &inner, &flat.items, nodes)
         }
     }
 }
@@ -72,8 +72,8 @@ pub(crate) fn check_items(
     found: &mut Vec<Failure>,
     context: &MapContext<'_>,
     scope: &[ScopeNode<'_, '_>],
-    nodes: &[Node],
     items: &[Item],
+    nodes: &[Node],
 ) -> Result<(), AllocError>
     ensures { OnOk result (NotesItems context.now (walked scope.now) (forest nodes.now) items.now found.old found.new) }
 {

@@ -4,8 +4,7 @@ ghost use Rattle.gw_validate.specs.Breaches.{is_forbidden};
 ghost use Rattle.gw_check.specs.Fields.{is_expected};
 ghost use Rattle.gw_check.specs.own.Seen as seen;
 ghost use Rattle.gw_resolve.specs.Intervals as intervals;
-ghost use Rattle.gw_resolve.specs.Noted.{Notes};
-ghost use Rattle.gw_resolve.specs.Seen.{interval, mark as seen_mark, saturated};
+ghost use Rattle.gw_resolve.specs.Seen.{Notes, interval, mark as seen_mark, saturated};
 
 use gw_leaves::is_forbidden;
 use gw_profile::{Card, Usage};

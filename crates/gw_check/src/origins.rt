@@ -1,6 +1,5 @@
 //! What the lines of a map read.
 ghost use Rattle.std.specs.Prelude.{◌≡◌, IfOk};
-ghost use Rattle.gw_resolve.specs.Positions.{positions};
 ghost use Rattle.gw_resolve.specs.Positions as places;
 ghost use Rattle.gw_resolve.specs.Seen.{place as seen_place, source as seen_source, leaf as seen_leaf};
 ghost use Rattle.gw_check.specs.Seen.{spot as seen_spot, some_reference, OriginIs};
@@ -13,7 +12,7 @@ use std::alloc::{AllocError, Global};
 
 // How many numbers of its position lead to what is walked.
 fn walked_steps(scope: &[Vec<usize>], place: &ScopePath) -> usize
-    ensures { result ≡ places.walked (positions scope.now) (seen_place place.now) }
+    ensures { result ≡ places.walked (places.positions scope.now) (seen_place place.now) }
 {
     if place.out >= scope.len() {
         return 0;
@@ -29,7 +28,7 @@ pub(crate) fn path_at(
     field: u32,
     part: LeafPlace,
 ) -> Result<ElementPath, AllocError>
-    ensures { IfOk result (λ s. seen_spot s ≡ spec.spot_at (positions scope.now) (seen_place place.now) field part.comp part.sub) }
+    ensures { IfOk result (λ s. seen_spot s ≡ spec.spot_at (places.positions scope.now) (seen_place place.now) field part.comp part.sub) }
 {
     let at = position(alloc, scope, place)?;
     Ok(ElementPath {
@@ -48,7 +47,7 @@ fn current_path(
     walked: Option<&Reference>,
     at: LeafPlace,
 ) -> Result<ElementPath, AllocError>
-    ensures { IfOk result (λ s. seen_spot s ≡ spec.current_spot (positions scope.now) (some_reference walked.entry) at.comp at.sub) }
+    ensures { IfOk result (λ s. seen_spot s ≡ spec.current_spot (places.positions scope.now) (some_reference walked.entry) at.comp at.sub) }
 {
     match walked {
         None => Ok(ElementPath {
@@ -68,7 +67,7 @@ fn source_path(
     walked: Option<&Reference>,
     from: &Source,
 ) -> Result<ElementPath, AllocError>
-    ensures { IfOk result (λ s. seen_spot s ≡ spec.source_spot (positions scope.now) (some_reference walked.entry) (seen_source from.now)) }
+    ensures { IfOk result (λ s. seen_spot s ≡ spec.source_spot (places.positions scope.now) (some_reference walked.entry) (seen_source from.now)) }
 {
     match from {
         Source::OfField(from, at) => path_at(alloc, scope, &from.place, from.field, *at),
@@ -83,7 +82,7 @@ pub(crate) fn leaf_origin(
     walked: Option<&Reference>,
     leaf: &ResolvedLeaf,
 ) -> Result<Origin, AllocError>
-    ensures { OriginIs result (λ tables. spec.leaf_origin (positions scope.now) (some_reference walked.entry) (seen_leaf tables leaf.now)) }
+    ensures { OriginIs result (λ tables. spec.leaf_origin (places.positions scope.now) (some_reference walked.entry) (seen_leaf tables leaf.now)) }
 {
     match leaf {
         ResolvedLeaf::Const(text) => {

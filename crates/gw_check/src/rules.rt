@@ -11,8 +11,7 @@ ghost use Rattle.gw_check.specs.Checked.{all_failures, unread};
 ghost use Rattle.gw_check.specs.Collected.{fields_at};
 ghost use Rattle.gw_check.specs.Seen.{all_sites};
 ghost use Rattle.gw_check.specs.Sites.{sites};
-ghost use Rattle.gw_resolve.specs.Noted.{Notes};
-ghost use Rattle.gw_resolve.specs.Seen.{failures as seen_failures, all_items};
+ghost use Rattle.gw_resolve.specs.Seen.{Notes, failures as seen_failures, all_items};
 ghost use Rattle.gw_check.specs.own.Seen as seen;
 ghost use Rattle.gw_leaves.specs.Context as spec;
 
@@ -100,7 +99,7 @@ fn add_failures(
     let nodes = context.target().nodes();
     let scope = [ScopeNode::Whole(Some(level))];
     check_level(alloc, found, &scope, line, nodes, items)?;
-    check_items(alloc, found, context, &scope, nodes, items)?;
+    check_items(alloc, found, context, &scope, items, nodes)?;
     let used = passed_over(alloc, whole, items, drops)?;
     note(found, 9, at_line(line), !used.unread.is_empty())?;
     Ok(used)

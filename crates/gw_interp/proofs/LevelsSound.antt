@@ -10,13 +10,12 @@ use Rattle.gw_profile.specs.WellFormed.{Rising, field_numbers, LawfulField, Lawf
 use Rattle.gw_profile.specs.Fault.{least_field}
 use Rattle.gw_validate.specs.Conforming.{One, Seq}
 use Rattle.gw_resolve.specs.Intervals.{never, once, product}
-use Rattle.gw_resolve.specs.Places.{Element, a_segment, a_group, the_whole, Place, Found, times, child_found, found_below, found_in, found, child, nodes_of, nodes_of_child, fields_of, name_of, count_of, count_at, count_if, element_of, within, within_if}
+use Rattle.gw_resolve.specs.Places.{Element, a_segment, a_group, the_whole, Place, Found, times, node_found, found_below, found_in, found, child, nodes_of, nodes_of_child, fields_of, name_of, count_of, count_at, count_if, element_of, within, within_if}
 use Rattle.gw_resolve.specs.Resolved.{FieldCondition, Rule, Items, no_items, segment_item, group_item, flat_item}
 use Rattle.gw_leaves.specs.Counts.{chosen_count}
-use Rattle.gw_check.specs.Counts.{items_count}
 use Rattle.gw_resolve.specs.Failures.{Mark, fails}
 use Rattle.gw_check.specs.Fields.{segment_failures}
-use Rattle.gw_check.specs.Levels.{sources, level_failures, items_failures}
+use Rattle.gw_check.specs.Levels.{sources, level_failures, items_failures, items_count}
 use Rattle.gw_resolve.specs.Order.{is_segment, is_group, all_for, are_placed}
 use Rattle.gw_resolve.specs.Lawful.{LawfulRules, LawfulItems}
 use Rattle.gw_interp.specs.Occurrences.{Occurrence, at_place}
@@ -54,7 +53,7 @@ module _ (names : List (List ℕ)) where
   lawful_times card None h = tt
   lawful_times card (Some f) h = h
 
-  lawful_child : (f : Forest) (i : ℕ) (go : Element → Option Found) → LawfulNodes names f → ((e : Element) → LawfulElement e → LawfulFound (go e)) → LawfulFound (child_found f i go)
+  lawful_child : (f : Forest) (i : ℕ) (go : Element → Option Found) → LawfulNodes names f → ((e : Element) → LawfulElement e → LawfulFound (go e)) → LawfulFound (node_found (child f i) go)
   lawful_child nothing i go l each = tt
   lawful_child (segment s rest) zero go l each = lawful_times s.card (go (a_segment s)) (each (a_segment s) l.segments.0)
   lawful_child (segment s rest) (suc i) go l each = lawful_child rest i go (record { segments = l.segments.1; groups = l.groups }) each

@@ -11,7 +11,7 @@ use Rattle.gw_profile.specs.Deterministic.{AtMost}
 use Rattle.gw_validate.specs.Trees.{Tree, leaf, segments, groups, Trees, no_trees, trees, count_of}
 use Rattle.gw_resolve.specs.Intervals.{Interval, of_card, multiply, product}
 use Rattle.gw_resolve.specs.Places as elements
-use Rattle.gw_resolve.specs.Places.{Element, nodes_of, Place, Found, times, child_found, found_below, found_in, found}
+use Rattle.gw_resolve.specs.Places.{Element, nodes_of, child, Place, Found, times, node_found, found_below, found_in, found}
 use Rattle.gw_interp.specs.Occurrences.{Occurrence, a_segment, nodes, list_of, level_at, below, in_scope, at_place}
 use Rattle.gw_interp.proofs.Walks.{IsSegmentOf, IsLevel, AreLevels, IsOccurrence, InScope}
 
@@ -89,7 +89,7 @@ module _ (profile : ProfileValue) (m : List SegmentValue) where
   listed e inner same no_trees h = tt
   listed e inner same (trees t ts) h = (same t h.0, listed e inner same ts h.1)
 
-  level_finds : (steps : List ℕ) → ((e : Element) (o : Occurrence) → IsOccurrence profile m e o → Finds (found_below steps e) (below steps o)) → (f : Forest) (t : Tree) (i : ℕ) → IsLevel profile m t f → Finds (child_found f i (found_below steps)) (flat_map (below steps) (level_at t i))
+  level_finds : (steps : List ℕ) → ((e : Element) (o : Occurrence) → IsOccurrence profile m e o → Finds (found_below steps e) (below steps o)) → (f : Forest) (t : Tree) (i : ℕ) → IsLevel profile m t f → Finds (node_found (child f i) (found_below steps)) (flat_map (below steps) (level_at t i))
   level_finds steps each nothing leaf i h = refl
   level_finds steps each nothing (segments ns t) i h = absurd h
   level_finds steps each nothing (groups ts t) i h = absurd h

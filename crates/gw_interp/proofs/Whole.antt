@@ -15,10 +15,9 @@ use Rattle.gw_validate.specs.Conforming.{Seq}
 use Rattle.gw_resolve.specs.Intervals.{Interval, is_never, is_within}
 use Rattle.gw_resolve.specs.Places.{Element, a_segment, a_group, child, nodes_of_child}
 use Rattle.gw_resolve.specs.Resolved.{Rule, Items, no_items, segment_item, group_item, flat_item, first_child}
-use Rattle.gw_check.specs.Counts.{items_count}
 use Rattle.gw_resolve.specs.Failures.{Mark, fails}
 use Rattle.gw_check.specs.Fields.{counted, is_expected}
-use Rattle.gw_check.specs.Levels.{its, beyond, node_mark, has_no_item, node_failures, level_failures, items_failures}
+use Rattle.gw_check.specs.Levels.{its, beyond, node_mark, has_no_item, node_failures, level_failures, items_failures, items_count}
 use Rattle.gw_resolve.specs.Order.{is_segment, is_group, follows, number_or, all_for, are_placed}
 use Rattle.gw_resolve.specs.Lawful.{LawfulItems}
 use Rattle.gw_interp.specs.Occurrences.{Occurrence}

@@ -6,8 +6,7 @@ use Rattle.gw_resolve.specs.Intervals.{Interval, never, product}
 use Rattle.gw_resolve.specs.Places.{Element, count_at, count_if, within}
 use Rattle.gw_resolve.specs.Resolved.{Items, no_items, segment_item, group_item, flat_item}
 use Rattle.gw_leaves.specs.Counts.{chosen_count}
-use Rattle.gw_check.specs.Counts.{items_count}
-use Rattle.gw_check.specs.Levels.{its, beyond}
+use Rattle.gw_check.specs.Levels.{its, beyond, items_count}
 use Rattle.gw_resolve.specs.Seen.{interval, saturated, with_item, all_items}
 use Rattle.gw_resolve.specs.declared.interval.Interval as declared
 

@@ -9,8 +9,7 @@ use Rattle.gw_validate.specs.Breaches.{is_forbidden}
 use Rattle.gw_resolve.specs.declared.resolved.Rule.{Rule}
 use Rattle.gw_resolve.specs.declared.resolved.Item.{Item}
 use Rattle.gw_resolve.specs.declared.resolved.LeftOut.{LeftOut}
-use Rattle.gw_resolve.specs.Failures.{Failure, fails}
-use Rattle.gw_resolve.specs.Failures.{Mark as Told}
+use Rattle.gw_resolve.specs.Failures.{Mark as Told, Failure, fails}
 use Rattle.gw_resolve.specs.Intervals.{Interval, is_never, is_within}
 use Rattle.gw_resolve.specs.Seen.{mark, all_items, left_out}
 use Rattle.gw_leaves.specs.declared.sources.Sources.{Sources}
@@ -20,7 +19,6 @@ use Rattle.gw_check.specs.declared.often.Asked.{Asked}
 use Rattle.gw_check.specs.Answers.{unlabelled}
 use Rattle.gw_check.specs.Fields as spec
 use Rattle.gw_check.specs.Reads as reads
-use Rattle.gw_check.specs.Reads.{SourceField}
 use Rattle.gw_check.specs.Typed as typed
 
 -- ---- how often something comes
@@ -65,5 +63,5 @@ failures s items drops = typed.failures (profile_value s.source) (profile_value 
 -- ---- what is passed over
 
 -- of the source of a map
-abbrev pub unread : ContextValue → List Item → List LeftOut → List SourceField
+abbrev pub unread : ContextValue → List Item → List LeftOut → List reads.SourceField
 unread s items drops = reads.passed_over (all_items s.map.tables items) (map left_out drops) (profile_value s.source).nodes

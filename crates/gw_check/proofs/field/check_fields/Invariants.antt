@@ -1,7 +1,7 @@
 use Rattle.gw_profile.specs.Seen.{field}
 use Rattle.gw_check.specs.own.Seen.{field_failures}
 use Rattle.gw_resolve.specs.Seen.{failures}
-use Rattle.gw_leaves.proofs.Each.{Tells}
+use Rattle.gw_resolve.proofs.Listing.{Tells}
 use Rattle.gw_check.proofs.field.check_fields.Given as goal
 
 abbrev pub invariant-loop-field : goal.invariant-loop-field

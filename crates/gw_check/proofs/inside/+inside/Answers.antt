@@ -1,30 +1,14 @@
-use Rattle.std.proofs.Common.{rules, ◌<◌, ◌≤◌, sym, ap, ◌∙◌}
+use Rattle.std.proofs.Common.{sym, ap, ◌∙◌}
 use Rattle.gw_profile.specs.Seen.{forest, profile_value}
 use Rattle.gw_resolve.specs.Seen.{failures, scope}
-use Rattle.gw_check.specs.Found.{weight_one, weight_all}
 use Rattle.gw_check.proofs.Collecting.{on_ok}
-use Rattle.gw_check.proofs.Within.{items_more, group_noted, flat_noted, lighter_group, lighter_flat, not_heavier, level_same}
+use Rattle.gw_check.proofs.Within.{items_more, group_noted, flat_noted, level_same}
 use Rattle.gw_check.proofs.inside.+inside.Goals as goal
 
 pub check_items-loop-item-preserved : goal.check_items-loop-item-preserved
 check_items-loop-item-preserved t c =
     items_more c.args.context.now.map.tables (profile_value c.args.context.now.source) (profile_value c.args.context.now.target) (scope c.args.scope.now) (forest c.args.nodes.now) c.args.items.now c.loop-item.item-index c.item-item.result
     (failures c.args.found.now.items) c.loop-item.found c.check_item.new.found c.loop-item-test.true c.item-item.is c.in_ok-check_item.ensures c.loop-item.invariant
-
-pub check_item-check_items-requires : goal.check_item-check_items-requires
-check_item-check_items-requires t c =
-    let smaller : weight_all c.deref-in-Group-3.result.now < weight_one c.args.item.now = lighter_group c.args.item.now c.in-Group.group c.deref-in-Group-3.result.now c.in-Group.is c.deref-in-Group-3.ensures.value in
-    search rules
-
-pub check_item-check_items-requires-in-Flat : goal.check_item-check_items-requires-in-Flat
-check_item-check_items-requires-in-Flat t c =
-    let smaller : weight_all c.deref-in-Flat-2.result.now < weight_one c.args.item.now = lighter_flat c.args.item.now c.in-Flat.flat c.deref-in-Flat-2.result.now c.in-Flat.is c.deref-in-Flat-2.ensures.value in
-    search rules
-
-pub check_items-check_item-requires : goal.check_items-check_item-requires
-check_items-check_item-requires t c =
-    let smaller : weight_one c.item-item.result ≤ weight_all c.args.items.now = not_heavier c.args.items.now c.loop-item.item-index c.item-item.result c.loop-item-test.true c.item-item.is in
-    search rules
 
 pub check_item-returns-in_ok-check_level-in-Group : goal.check_item-returns-in_ok-check_level-in-Group
 check_item-returns-in_ok-check_level-in-Group t c =

@@ -1,9 +1,9 @@
-use Rattle.std.proofs.Common.{sym}
-use Rattle.gw_check.proofs.Counted.{leads_none, leads_here, leads_more, leads_to_end}
+use Rattle.std.proofs.Common.{refl, sym}
+use Rattle.gw_check.proofs.Counted.{leads_here, leads_more, leads_to_end}
 use Rattle.gw_check.proofs.items.leading.Goals as goal
 
 pub loop-i-init : goal.loop-i-init
-loop-i-init c = leads_none c.args.node c.args.items.now
+loop-i-init c = record { these = λ tables. refl; others = λ tables. refl }
 
 pub returns-then-not-is_of : goal.returns-then-not-is_of
 returns-then-not-is_of c =

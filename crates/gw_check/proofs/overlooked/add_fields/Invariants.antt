@@ -1,6 +1,6 @@
 use Rattle.gw_profile.specs.Seen.{field}
 use Rattle.gw_check.specs.Collected.{fields_at, field_missed}
-use Rattle.gw_leaves.proofs.Each.{Tells}
+use Rattle.gw_resolve.proofs.Listing.{Tells}
 use Rattle.gw_check.proofs.overlooked.add_fields.Given as goal
 
 abbrev pub invariant-loop-field : goal.invariant-loop-field

@@ -2,7 +2,7 @@ use Rattle.std.proofs.Common.{List}
 use Rattle.gw_maplang.specs.Shapes.{TableValue}
 use Rattle.gw_resolve.specs.Seen.{at_leaf}
 use Rattle.gw_resolve.specs.Positions.{positions}
-use Rattle.gw_leaves.proofs.Each.{Tells}
+use Rattle.gw_resolve.proofs.Listing.{Tells}
 use Rattle.gw_check.specs.Seen.{all_sites, some_reference}
 use Rattle.gw_check.specs.Sites.{leaf_sites}
 use Rattle.gw_check.proofs.segments.add_leaves.Given as goal

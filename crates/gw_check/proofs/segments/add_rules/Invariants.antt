@@ -2,7 +2,7 @@ use Rattle.std.proofs.Common.{List}
 use Rattle.gw_maplang.specs.Shapes.{TableValue}
 use Rattle.gw_resolve.specs.Seen.{rule}
 use Rattle.gw_resolve.specs.Positions.{positions}
-use Rattle.gw_leaves.proofs.Each.{Tells}
+use Rattle.gw_resolve.proofs.Listing.{Tells}
 use Rattle.gw_check.specs.Seen.{all_sites}
 use Rattle.gw_check.specs.Sites.{rule_sites}
 use Rattle.gw_check.proofs.segments.add_rules.Given as goal
