@@ -1,16 +1,16 @@
 -- What lines make, taken together.
-use Rattle.std.proofs.Common.{◌≡◌, ℕ, ◌+◌, ◌<◌, List, [], ◌∷◌, ◌++◌, drop, get_or, sym, ap, ◌∙◌, map, Some, None, option_map, length, subst}
+use Rattle.std.proofs.Common.{◌≡◌, ℕ, ◌+◌, ◌<◌, List, [], ◌∷◌, ◌++◌, drop, get_or, sym, ap, ◌∙◌, map, Some, None, option_map, length}
 use Rattle.std.specs.Prelude.{option_to_list}
 use Rattle.std.proofs.lemmas.List.{append-nil, append_assoc}
 use Rattle.gw_maplang.specs.Shapes.{TableValue}
 use Rattle.gw_resolve.specs.declared.resolved.GroupItem.{GroupItem}
 use Rattle.gw_resolve.specs.declared.resolved.FlatItem.{FlatItem}
 use Rattle.gw_resolve.specs.declared.resolved.SegmentItem.{SegmentItem}
-use Rattle.gw_resolve.specs.declared.resolved.Item.{Item, Segment, Group, Flat, Group', Flat'}
+use Rattle.gw_resolve.specs.declared.resolved.Item.{Item, Segment, Group, Flat}
 use Rattle.gw_resolve.specs.declared.resolved.ScopePath as places
 use Rattle.gw_resolve.specs.declared.resolved.Rule as rules_of
 use Rattle.gw_resolve.specs.Resolved.{Items, no_items, first_child}
-use Rattle.gw_resolve.specs.Seen.{place, some_condition, rule, with_item, row_items, all_items}
+use Rattle.gw_resolve.specs.Seen.{place, some_condition, rule, with_item, all_items}
 use Rattle.gw_resolve.proofs.Noting.{front, added_one}
 use Rattle.gw_resolve.proofs.Rows.{group_items, flat_items}
 use Rattle.gw_resolve.specs.Positions.{Position, inner, inner_if}
@@ -27,33 +27,24 @@ module _ (tables : List TableValue) (scope : List Position) (at : Position) (s :
   -- that is always made
   pub always_made : (list : List rules_of.Rule) → s.place ≡ None → list ≡ s.rules.items → Adds tables old first (site_of s.line at 0 0 0 unsaid ∷ []) →
       Adds tables first mid (condition_sites scope s.line at (some_condition s.condition)) → Adds tables mid new (rules_sites scope at (map (rule tables) list)) → Adds tables old new (segment_sites scope at (segment_item tables s))
-  always_made list none same h a k =
-      subst (λ p. Adds tables old new ((node_sites s.line at (origin_if scope (option_map place p)) ++ condition_sites (inner_if scope (option_map place p)) s.line at (some_condition s.condition)) ++ rules_sites (inner_if scope (option_map place p)) at (map (rule tables) s.rules.items))) (sym none)
-      (subst (λ l. Adds tables old new ((node_sites s.line at unsaid ++ condition_sites scope s.line at (some_condition s.condition)) ++ rules_sites scope at (map (rule tables) l))) same
-      (added_twice tables old mid new _ _ (added_twice tables old first mid _ _ h a) k))
+  always_made list none same h a k = added_twice tables old mid new _ _ (added_twice tables old first mid _ _ h a) k ∙ ap (λ l. all_sites tables old ++ l) (λ i.
+      let p = option_map place (sym none i) in
+      (node_sites s.line at (origin_if scope p) ++ condition_sites (inner_if scope p) s.line at (some_condition s.condition)) ++ rules_sites (inner_if scope p) at (map (rule tables) (same i)))
 
   -- that is made for each occurrence at a place
   pub walked_made : (within asked : List Position) (p : places.ScopePath) (list : List rules_of.Rule) → s.place ≡ Some p → list ≡ s.rules.items → within ≡ inner scope (place p) → asked ≡ inner scope (place p) →
       Adds tables old first (node_sites s.line at (node_origin scope (place p))) → Adds tables first mid (condition_sites asked s.line at (some_condition s.condition)) →
       Adds tables mid new (rules_sites within at (map (rule tables) list)) → Adds tables old new (segment_sites scope at (segment_item tables s))
-  walked_made within asked p list some same there here h a k =
-      subst (λ q. Adds tables old new ((node_sites s.line at (origin_if scope (option_map place q)) ++ condition_sites (inner_if scope (option_map place q)) s.line at (some_condition s.condition)) ++ rules_sites (inner_if scope (option_map place q)) at (map (rule tables) s.rules.items))) (sym some)
-      (subst (λ l. Adds tables old new (each_sites scope s.line at (place p) (some_condition s.condition) ++ rules_sites (inner scope (place p)) at (map (rule tables) l))) same
-      (subst (λ w. Adds tables old new (each_sites scope s.line at (place p) (some_condition s.condition) ++ rules_sites w at (map (rule tables) list))) there
-      (subst (λ w. Adds tables old new ((node_sites s.line at (node_origin scope (place p)) ++ condition_sites w s.line at (some_condition s.condition)) ++ rules_sites within at (map (rule tables) list))) here
-      (added_twice tables old mid new _ _ (added_twice tables old first mid _ _ h a) k))))
+  walked_made within asked p list some same there here h a k = added_twice tables old mid new _ _ (added_twice tables old first mid _ _ h a) k ∙ ap (λ l. all_sites tables old ++ l)
+      ((λ i. (node_sites s.line at (node_origin scope (place p)) ++ condition_sites (here i) s.line at (some_condition s.condition)) ++ rules_sites (there i) at (map (rule tables) (same i)))
+      ∙ ap (λ q. (node_sites s.line at (origin_if scope q) ++ condition_sites (inner_if scope q) s.line at (some_condition s.condition)) ++ rules_sites (inner_if scope q) at (map (rule tables) s.rules.items)) (ap (option_map place) (sym some)))
 
 -- ---- items
 
 module _ (tables : List TableValue) (scope : List Position) (above : Position) where
   one_made : (i : Item) (rest : Items) → items_sites scope above (with_item tables i rest) ≡ items_sites scope above (with_item tables i no_items) ++ items_sites scope above rest
-  one_made (Segment s) rest = ap (λ l. l ++ items_sites scope above rest) (sym (append-nil (segment_sites scope (above ++ s.child ∷ []) (segment_item tables s))))
-  one_made (Group' line child from asked shape row) rest =
-      ap (λ l. l ++ items_sites scope above rest)
-      (sym (append-nil (each_sites scope line (above ++ child ∷ []) (place from) (some_condition asked) ++ items_sites (inner scope (place from)) (above ++ child ∷ []) (row_items tables row))))
-  one_made (Flat' line from asked shape row) rest =
-      ap (λ l. l ++ items_sites scope above rest)
-      (sym (append-nil (each_sites scope line (above ++ option_to_list (first_child (row_items tables row))) (place from) (some_condition asked) ++ items_sites (inner scope (place from)) above (row_items tables row))))
+  one_made (Segment s) rest = search (append_assoc)
+  one_made i rest = search (append_assoc)
 
   pub item_made : (items : List Item) (k : ℕ) (i : Item) (first old new : List declared.Site) → k < length items → i ≡ get_or items k i → Adds tables old new (items_sites scope above (with_item tables i no_items)) →
       all_sites tables first ++ items_sites scope above (all_items tables items) ≡ all_sites tables old ++ items_sites scope above (all_items tables (drop k items)) →
@@ -81,12 +72,9 @@ module _ (tables : List TableValue) (scope : List Position) (above : Position) w
   flat_made within asked at at' i f is js old first mid new same items jtems walked walked' there there' h a k =
       added_twice tables old mid new _ _ (added_twice tables old first mid _ _ h a) k
       ∙ ap (λ l. all_sites tables old ++ l)
-      ((λ x. (node_sites f.line (at_is x) (node_origin scope (place f.place)) ++ condition_sites (walked' x) f.line (at'_is x) (some_condition f.condition)) ++ items_sites (walked x) above (all_items tables (items x)))
+      ((λ x. (node_sites f.line (made there x) (node_origin scope (place f.place)) ++ condition_sites (walked' x) f.line (made there' x) (some_condition f.condition)) ++ items_sites (walked x) above (all_items tables (items x)))
       ∙ sym (append-nil (each_sites scope f.line (above ++ option_to_list (first_child (all_items tables f.items.items))) (place f.place) (some_condition f.condition) ++ items_sites (inner scope (place f.place)) above (all_items tables f.items.items)))
       ∙ sym (ap (items_sites scope above) (ap (λ j. with_item tables j no_items) same ∙ flat_items tables f no_items)))
     where
-      at_is : at ≡ above ++ option_to_list (first_child (all_items tables f.items.items))
-      at_is = there ∙ ap (λ l. above ++ option_to_list (first_child (all_items tables l))) jtems
-
-      at'_is : at' ≡ above ++ option_to_list (first_child (all_items tables f.items.items))
-      at'_is = there' ∙ ap (λ l. above ++ option_to_list (first_child (all_items tables l))) jtems
+      made : {p : Position} → p ≡ above ++ option_to_list (first_child (all_items tables js)) → p ≡ above ++ option_to_list (first_child (all_items tables f.items.items))
+      made e = e ∙ ap (λ l. above ++ option_to_list (first_child (all_items tables l))) jtems

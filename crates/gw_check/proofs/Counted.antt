@@ -19,7 +19,7 @@ use Rattle.gw_resolve.proofs.Rows.{flat_items}
 use Rattle.gw_resolve.proofs.Built.{with_items, with_none, with_more}
 
 -- one item more
-pub count_more : (scope : List Element) (i : Item) (is : List Item) (one more total : declared.Interval) → CountsOne scope i one → CountsAll scope is more → interval total ≡ saturated (sum (interval one) (interval more)) → CountsAll scope (i ∷ is) total
+count_more : (scope : List Element) (i : Item) (is : List Item) (one more total : declared.Interval) → CountsOne scope i one → CountsAll scope is more → interval total ≡ saturated (sum (interval one) (interval more)) → CountsAll scope (i ∷ is) total
 count_more scope i is one more total a b e tables =
     e ∙ ap (λ c. saturated (sum c (interval more))) (a tables) ∙ ap (λ c. saturated (sum (saturated (first_count scope (with_item tables i no_items))) c)) (b tables)
     ∙ sum_saturated (first_count scope (with_item tables i no_items)) (items_count scope (all_items tables is))
@@ -99,19 +99,15 @@ leads_here j is n i c low at child other h =
     this : (tables : List TableValue) → is_of j (first_child (with_item tables i no_items)) ≡ false
     this tables = ap (is_of j) (sym (child tables)) ∙ other
 
-pub leads_all : (j : ℕ) (is : List Item) → LeadsSoFar j is (length is) → Leads j is (length is)
-leads_all j is h =
-    record {
-      within = omega arith;
-      these = λ tables. sym (h.these tables ∙ ap (λ l. with_items tables (take (length is) is) (its j (all_items tables l))) none ∙ with_none tables (take (length is) is));
-      others = λ tables. sym (h.others tables ∙ ap (λ l. beyond j (all_items tables l)) none ∙ ap (all_items tables) (sym none));
-    }
-  where
-    none : drop (length is) is ≡ []
-    none = drop_all (length is) is (omega arith)
-
 pub leads_to_end : (j : ℕ) (is : List Item) (n : ℕ) → n ≤ length is → length is ≤ n → LeadsSoFar j is n → Leads j is (length is)
-leads_to_end j is n low high h = let same : n ≡ length is = omega (arith, low, high) in leads_all j is (subst (LeadsSoFar j is) same h)
+leads_to_end j is n low high h =
+    let same : n ≡ length is = omega (arith, low, high) in
+    let none = drop_all n is high in
+    subst (Leads j is) same (record {
+      within = low;
+      these = λ tables. sym (h.these tables ∙ ap (λ l. with_items tables (take n is) (its j (all_items tables l))) none ∙ with_none tables (take n is));
+      others = λ tables. sym (h.others tables ∙ ap (λ l. beyond j (all_items tables l)) none ∙ ap (all_items tables) (sym none));
+    })
 
 pub none_there : (tables : List TableValue) (is : List Item) → (length is == 0) ≡ has_no_item (all_items tables is)
 none_there tables [] = refl

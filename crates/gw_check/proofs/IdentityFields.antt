@@ -1,21 +1,19 @@
 -- The fields of a segment are copied as its own profile asks for them.
 use Rattle.std.proofs.Common.{◌≡◌, ℕ, suc, ◌<◌, inl, inr, Bool, true, false, List, [], ◌∷◌, ◌++◌, map, Option, Some, None, refl, sym, ap, ap₂, ◌∙◌, subst, arith}
-use Rattle.std.specs.Prelude.{if◌then◌else◌, cond, ◌==◌, ◌&&◌, ◌||◌, not, nat_lt, find, filter, flat_map, unwrap_or}
-use Rattle.std.specs.List.{AllByRecursion, list_any}
-use Rattle.std.proofs.lemmas.Bool.{le-ltb, eq-eqb, ne_eqb}
+use Rattle.std.specs.Prelude.{if◌then◌else◌, cond, ◌==◌, ◌&&◌, not, nat_lt, find, filter, flat_map, unwrap_or}
+use Rattle.std.specs.List.{AllByRecursion}
+use Rattle.std.proofs.lemmas.Bool.{le-ltb, eq-eqb, eqb-true, ne_eqb}
 use Rattle.gw_profile.specs.declared.shape.Usage.{Usage}
 use Rattle.gw_profile.specs.declared.shape.Usage.TheVariants.{R, X}
 use Rattle.gw_profile.specs.declared.shape.Card.{Card}
-use Rattle.gw_profile.specs.Fault.{is_among, least_field}
+use Rattle.gw_profile.specs.Fault.{least_field}
 use Rattle.gw_profile.specs.Line as line
 use Rattle.gw_profile.specs.Shapes.{SubValue, CompValue, FieldValue, SegmentValue, ProfileValue}
-use Rattle.gw_profile.specs.declared.shape.Count.{Count}
-use Rattle.gw_profile.specs.declared.shape.Count.TheVariants.{Octets, Characters}
 use Rattle.gw_profile.specs.Lengths.{measure, len_count}
 use Rattle.gw_profile.specs.Value.{table_of}
 use Rattle.gw_profile.specs.WellFormed.{Agrees, Rising, field_numbers, LawfulComp, LawfulField, LawfulSegment}
 use Rattle.gw_profile.specs.Among as lists
-use Rattle.gw_profile.proofs.Among.{among_is}
+use Rattle.gw_leaves.proofs.Fitting.{all_listed, all_short}
 use Rattle.gw_profile.proofs.Facts.{tells, le_is, le_test}
 use Rattle.gw_validate.specs.Breaches.{is_required, is_forbidden}
 use Rattle.gw_leaves.specs.declared.shape.Presence.{Presence}
@@ -25,7 +23,7 @@ use Rattle.gw_resolve.specs.Intervals.{never, once, of_card, is_never, is_within
 use Rattle.gw_resolve.specs.Places.{Element, a_segment}
 use Rattle.gw_resolve.specs.Resolved.{Rule, rule_of}
 use Rattle.gw_resolve.specs.Naming.{itself}
-use Rattle.gw_leaves.specs.Leaves.{Sources, listed, by_usage, comp_presence, sub_usage, sub_presence, is_always, is_absent, is_short, sub_values, may_be_unlisted, may_exceed, may_be_long}
+use Rattle.gw_leaves.specs.Leaves.{Sources, any, listed, by_usage, comp_presence, sub_usage, sub_presence, is_always, is_absent, is_short, sub_values, may_be_unlisted, may_be_long}
 use Rattle.gw_profile.specs.Numbered.{field_of, comp_of, sub_of}
 use Rattle.gw_leaves.specs.Counts.{rule_count, reference_count}
 use Rattle.gw_leaves.specs.Components.{field_mark, comp_in, sub_in, table_values, value_failures, copied_sub, copied_comp, copied_field, rule_lookups}
@@ -81,28 +79,21 @@ none_below n low high (f ∷ fields) less r =
     elim (line.is_forbidden (Some f.usage)) as (λ b. rule_of (if b then same_rules fields else same_rule f.number ∷ same_rules fields) n ≡ None)
     [ true ↦ later | false ↦ ap (λ b. cond b (Some (same_rule f.number)) (rule_of (same_rules fields) n)) other ∙ later ]
 
-abbrev Ruled : List Rule → FieldValue → Type 0
-Ruled rules f = rule_of rules f.number ≡ rule_or (line.is_forbidden (Some f.usage)) f.number
+abbrev copy_of : Option FieldValue → Option Rule
+copy_of None = None
+copy_of (Some f) = rule_or (line.is_forbidden (Some f.usage)) f.number
 
--- a field of a lower number stands before them
-ruled_behind : (y : FieldValue) (low high : ℕ) (xs : List FieldValue) (rules : List Rule) → y.number < low → Rising low high (field_numbers xs) → AllByRecursion (Ruled rules) xs →
-    AllByRecursion (Ruled (if line.is_forbidden (Some y.usage) then rules else same_rule y.number ∷ rules)) xs
-ruled_behind y low high [] rules less r h = tt
-ruled_behind y low high (x ∷ xs) rules less r h =
-    let other : (y.number == x.number) ≡ false = ne_eqb y.number x.number (λ e. omega (arith, less, r.0, e)) in (
-      elim (line.is_forbidden (Some y.usage)) as (λ b. Ruled (if b then rules else same_rule y.number ∷ rules) x)
-          [ true ↦ h.0 | false ↦ ap (λ b. cond b (Some (same_rule y.number)) (rule_of rules x.number)) other ∙ h.0 ],
-      ruled_behind y (suc x.number) high xs rules (omega (arith, less, r.0)) r.2 h.1,
-    )
-
--- each field that isn't X has a copy of it, no other has a rule
-pub each_ruled : (low high : ℕ) (fields : List FieldValue) → Rising low high (field_numbers fields) → AllByRecursion (Ruled (same_rules fields)) fields
-each_ruled low high [] r = tt
-each_ruled low high (f ∷ fields) r = (
-  elim (line.is_forbidden (Some f.usage)) as (λ b. rule_of (if b then same_rules fields else same_rule f.number ∷ same_rules fields) f.number ≡ rule_or b f.number)
-      [ true ↦ none_below f.number (suc f.number) high fields (omega arith) r.2 | false ↦ ap (λ b. cond b (Some (same_rule f.number)) (rule_of (same_rules fields) f.number)) (eq-eqb f.number f.number refl) ],
-  ruled_behind f (suc f.number) high fields (same_rules fields) (omega arith) r.2 (each_ruled (suc f.number) high fields r.2),
-)
+-- a field that isn't X has a copy of it, no other has a rule
+ruled : (n low high : ℕ) (fields : List FieldValue) → Rising low high (field_numbers fields) → rule_of (same_rules fields) n ≡ copy_of (field_of fields n)
+ruled n low high [] r = refl
+ruled n low high (f ∷ fields) r =
+    let later = ruled n (suc f.number) high fields r.2 in
+    let none : f.number ≡ n → rule_of (same_rules fields) n ≡ None = λ e. none_below n (suc f.number) high fields (omega (arith, e)) r.2 in
+    elim (tells (f.number == n)) [
+      | inl e ↦ rw e (elim (line.is_forbidden (Some f.usage)) as (λ b. rule_of (if b then same_rules fields else same_rule f.number ∷ same_rules fields) n ≡ rule_or b f.number)
+            [ true ↦ none (eqb-true f.number n e) | false ↦ rw e refl ])
+      | inr e ↦ rw e (elim (line.is_forbidden (Some f.usage)) as (λ b. rule_of (if b then same_rules fields else same_rule f.number ∷ same_rules fields) n ≡ copy_of (field_of fields n)) [ true ↦ later | false ↦ rw e later ])
+    ]
 
 -- ---- values
 
@@ -110,27 +101,15 @@ pub not_and : (a b : Bool) → b ≡ false → a && b ≡ false
 not_and true b e = e
 not_and false b e = refl
 
--- each value that is short enough stands in the table
-none_unlisted : (count : Count) (len : Option ℕ) (table texts : List (List ℕ)) → ((x : List ℕ) → lists.Among x texts → is_among x table ≡ true) → list_any (λ text. not (is_among text table)) (filter (is_short count len) texts) ≡ false
-none_unlisted count len table [] h = refl
-none_unlisted count len table (x ∷ texts) h =
-    let later = none_unlisted count len table texts (λ y a. h y (inr a)) in
-    elim (is_short count len x) as (λ b. list_any (λ text. not (is_among text table)) (cond b (x ∷ filter (is_short count len) texts) (filter (is_short count len) texts)) ≡ false)
-    [ true ↦ ap₂ (λ s t. not s || t) (h x (inl refl)) later | false ↦ later ]
-
-none_long : (count : Count) (most : ℕ) (texts : List (List ℕ)) → list_any (λ text. nat_lt most (measure count text)) (filter (is_short count (Some most)) texts) ≡ false
-none_long count most [] = refl
-none_long count most (x ∷ texts) = by (is_short count (Some most) x) refl (none_long count most texts)
+-- a text that a test leaves passes it, and stood there before
+kept : (test : List ℕ → Bool) (x : List ℕ) (texts : List (List ℕ)) → lists.Among x (filter test texts) → (test x ≡ true) × lists.Among x texts
+kept test x [] a = absurd a
+kept test x (y ∷ texts) a = by (test y) refl a (kept test x texts)
   where
-    by : (b : Bool) → is_short count (Some most) x ≡ b → list_any (λ text. nat_lt most (measure count text)) (filter (is_short count (Some most)) texts) ≡ false →
-        list_any (λ text. nat_lt most (measure count text)) (cond b (x ∷ filter (is_short count (Some most)) texts) (filter (is_short count (Some most)) texts)) ≡ false
-    by true is later = ap₂ (λ s t. s || t) (le-ltb most (measure count x) (le_is (measure count x) most is)) later
-    by false is later = later
-
--- lengths of one count
-not_exceeded : (count : Count) (most : ℕ) → may_exceed count most count most ≡ false
-not_exceeded Octets most = le-ltb most most (omega arith)
-not_exceeded Characters most = le-ltb most most (omega arith)
+    by : (b : Bool) → test y ≡ b → lists.Among x (cond b (y ∷ filter test texts) (filter test texts)) → (lists.Among x (filter test texts) → (test x ≡ true) × lists.Among x texts) → (test x ≡ true) × lists.Among x (y ∷ texts)
+    by true e (inl same) later = (ap test same ∙ e, inl same)
+    by true e (inr b) later = ((later b).0, inr (later b).1)
+    by false e b later = ((later b).0, inr (later b).1)
 
 module _ (profile : ProfileValue) where
   abbrev sub_with : ℕ → Usage → Option ℕ → Option (List ℕ) → SubValue
@@ -138,17 +117,19 @@ module _ (profile : ProfileValue) where
 
   listed_or : (len : Option ℕ) (o : Option (List (List ℕ))) → may_be_unlisted (listed (filter (is_short (len_count profile) len) (unwrap_or o []))) o ≡ false
   listed_or len None = refl
-  listed_or len (Some values) = none_unlisted (len_count profile) len values values (λ x a. (among_is x values).1 a)
+  listed_or len (Some values) = (all_listed (filter (is_short (len_count profile) len) values) values).1 (λ x a. (kept (is_short (len_count profile) len) x values a).1)
 
   always_listed : (number : ℕ) (usage : Usage) (len : Option ℕ) (table : Option (List ℕ)) → may_be_unlisted (sub_values profile (Some (sub_with number usage len table))) (table_values profile.tables (sub_with number usage len table)) ≡ false
   always_listed number usage len None = refl
   always_listed number usage len (Some name) = listed_or len (table_of name profile.tables)
 
   always_short : (number : ℕ) (usage : Usage) (len : Option ℕ) (table : Option (List ℕ)) → may_be_long (len_count profile) (sub_values profile (Some (sub_with number usage len table))) len ≡ false
-  always_short number usage None None = refl
-  always_short number usage None (Some name) = refl
-  always_short number usage (Some most) None = not_exceeded (len_count profile) most
-  always_short number usage (Some most) (Some name) = none_long (len_count profile) most (unwrap_or (table_of name profile.tables) [])
+  always_short number usage None table = refl
+  always_short number usage (Some most) None = (all_short (len_count profile) (any (len_count profile) (Some most)) most).1 (λ x e. le_is (measure (len_count profile) x) most e)
+  always_short number usage (Some most) (Some name) =
+      let values = unwrap_or (table_of name profile.tables) [] in
+      let short = is_short (len_count profile) (Some most) in
+      (all_short (len_count profile) (listed (filter short values)) most).1 (λ x a. le_is (measure (len_count profile) x) most (kept short x values a).0)
 
   -- ---- components and subcomponents
 
@@ -251,15 +232,16 @@ module _ (profile : ProfileValue) (names : List (List ℕ)) (s : SegmentValue) (
   count_is : (f : FieldValue) → field_of s.fields f.number ≡ Some f → rule_count walked (Some (same_rule f.number)) ≡ of_card f.card
   count_is f found = ap (reference_count (record { count = once; fields = s.fields })) found
 
-  field_holds : (f : FieldValue) → LawfulField names f → Ruled (same_rules s.fields) f → field_of s.fields f.number ≡ Some f → field_failures walked profile 0 (same_rules s.fields) f ≡ []
-  field_holds f l ruled found =
+  field_holds : (f : FieldValue) → LawfulField names f → rule_of (same_rules s.fields) f.number ≡ copy_of (field_of s.fields f.number) → field_of s.fields f.number ≡ Some f → field_failures walked profile 0 (same_rules s.fields) f ≡ []
+  field_holds f l copied found =
+      let own = copied ∙ ap copy_of found in
       elim (tells (line.is_forbidden (Some f.usage))) [
         | inl h ↦
             let is = x_is f.usage h in
-            let none : rule_of (same_rules s.fields) f.number ≡ None = ruled ∙ ap (λ b. rule_or b f.number) h in
+            let none : rule_of (same_rules s.fields) f.number ≡ None = own ∙ ap (λ b. rule_or b f.number) h in
             ap (failures_of f) none ∙ no_more _ _ (absent_holds (field_mark f.number 0) f.usage f.card is (subst (λ u. Agrees u f.card) is l.agrees).0) refl
         | inr h ↦
-            let some : rule_of (same_rules s.fields) f.number ≡ Some (same_rule f.number) = ruled ∙ ap (λ b. rule_or b f.number) h in
+            let some : rule_of (same_rules s.fields) f.number ≡ Some (same_rule f.number) = own ∙ ap (λ b. rule_or b f.number) h in
             ap (failures_of f) some
             ∙ no_more _ _ (ap (λ c. count_failures 0 c f (Some (same_rule f.number))) (count_is f found) ∙ given_holds (field_mark f.number 0) f.usage f.card h) (contents_hold f l found)
       ]
@@ -273,10 +255,6 @@ module _ (profile : ProfileValue) (names : List (List ℕ)) (s : SegmentValue) (
   segment_holds l =
       no_more _ _
       (none_of_each (field_failures walked profile 0 (same_rules s.fields)) s.fields
-      (each s.fields l.each (each_ruled (least_field s.name) 999 s.fields l.rising) (each_found (λ (f : FieldValue). f.number) (least_field s.name) 999 s.fields l.rising)))
+      (each_of_both (LawfulField names) (λ f. field_of s.fields f.number ≡ Some f) (λ f. field_failures walked profile 0 (same_rules s.fields) f ≡ [])
+      (λ f lawful found. field_holds f lawful (ruled f.number (least_field s.name) 999 s.fields l.rising) found) s.fields l.each (each_found (λ (f : FieldValue). f.number) (least_field s.name) 999 s.fields l.rising)))
       (no_lookups s.fields)
-    where
-      each : (fields : List FieldValue) → AllByRecursion (LawfulField names) fields → AllByRecursion (Ruled (same_rules s.fields)) fields → AllByRecursion (λ f. field_of s.fields f.number ≡ Some f) fields →
-          AllByRecursion (λ f. field_failures walked profile 0 (same_rules s.fields) f ≡ []) fields
-      each [] l r h = tt
-      each (f ∷ fields) l r h = (field_holds f l.0 r.0 h.0, each fields l.1 r.1 h.1)

@@ -9,13 +9,13 @@ use Rattle.gw_profile.specs.Shapes.{GroupValue, Forest, ProfileValue, nothing, s
 use Rattle.gw_profile.specs.WellFormed as formed
 use Rattle.gw_profile.proofs.Facts.{tells}
 use Rattle.gw_validate.specs.Breaches.{is_forbidden}
-use Rattle.gw_resolve.specs.Failures.{Failure, at_line}
+use Rattle.gw_resolve.specs.Failures.{at_line}
 use Rattle.gw_resolve.specs.Intervals.{never, once, of_card, add, multiply, sum, product}
-use Rattle.gw_resolve.specs.Places.{Element, a_segment, a_group, nodes_of, child, card_of, fields_of, count_of, count_at, within_if}
-use Rattle.gw_resolve.specs.Resolved.{Items, no_items, segment_item, group_item}
+use Rattle.gw_resolve.specs.Places.{Element, a_segment, a_group, nodes_of, card_of, fields_of, count_of, count_at}
+use Rattle.gw_resolve.specs.Resolved.{Items, no_items, segment_item}
 use Rattle.gw_check.specs.Fields.{often_failures, segment_failures}
-use Rattle.gw_check.specs.Levels.{its, beyond, node_mark, node_failures, level_failures, items_failures, sources, items_count}
-use Rattle.gw_check.proofs.IdentityNamed.{at_node, same_rules, same_segment, same_group, same, no_more, Standing, Stands, from_the_first, behind_segment, behind_group, segment_stands, group_stands, nodes_there, found_there, within_there}
+use Rattle.gw_check.specs.Levels.{its, beyond, node_mark, level_failures, items_failures, sources, items_count}
+use Rattle.gw_check.proofs.IdentityNamed.{at_node, same_rules, same_segment, same, no_more, Standing, Stands, from_the_first, behind_segment, behind_group, segment_stands, group_stands, nodes_there, found_there, within_there}
 use Rattle.gw_check.proofs.IdentityFields.{given_holds, absent_holds, x_is, segment_holds}
 
 -- ---- how often
@@ -35,15 +35,10 @@ as_card card = λ i. record { least = times_one card.min i; greatest = most_is c
 
 none_yet : (j k : ℕ) (nodes : Forest) → j < k → (its j (same k nodes) ≡ no_items) × (beyond j (same k nodes) ≡ same k nodes)
 none_yet j k nothing less = (refl, refl)
-none_yet j k (segment s rest) less = by (line.is_forbidden (Some s.usage)) (none_yet j (suc k) rest (omega (arith, less)))
-  where
-    other : (k == j) ≡ false
-    other = ne_eqb k j (λ e. omega (arith, less, e))
-
-    by : (b : Bool) → (its j (same (suc k) rest) ≡ no_items) × (beyond j (same (suc k) rest) ≡ same (suc k) rest) →
-        (its j (if b then same (suc k) rest else segment_item (same_segment k s) (same (suc k) rest)) ≡ no_items) × (beyond j (if b then same (suc k) rest else segment_item (same_segment k s) (same (suc k) rest)) ≡ (if b then same (suc k) rest else segment_item (same_segment k s) (same (suc k) rest)))
-    by true later = later
-    by false later = rw other (refl, refl)
+none_yet j k (segment s rest) less =
+    let other : (k == j) ≡ false = ne_eqb k j (λ e. omega (arith, less, e)) in
+    let those : Bool → Items = λ b. if b then same (suc k) rest else segment_item (same_segment k s) (same (suc k) rest) in
+    elim (line.is_forbidden (Some s.usage)) as (λ b. (its j (those b) ≡ no_items) × (beyond j (those b) ≡ those b)) [ true ↦ none_yet j (suc k) rest (omega (arith, less)) | false ↦ rw other (refl, refl) ]
 none_yet j k (group g nodes rest) less =
     let other : (k == j) ≡ false = ne_eqb k j (λ e. omega (arith, less, e)) in
     rw other (refl, refl)
@@ -70,64 +65,34 @@ levels_hold names e scope holder j (segment s rest) h d l g =
     none : (its j later ≡ no_items) × (beyond j later ≡ later)
     none = none_yet j (suc j) rest (omega arith)
 
-    mine : its j (segment_item (same_segment j s) later) ≡ segment_item (same_segment j s) no_items
-    mine = ap (λ b. if b then segment_item (same_segment j s) (its j later) else no_items) (eq-eqb j j refl) ∙ ap (segment_item (same_segment j s)) none.0
-
-    others : beyond j (segment_item (same_segment j s) later) ≡ later
-    others = ap (λ b. if b then beyond j later else segment_item (same_segment j s) later) (eq-eqb j j refl) ∙ none.1
-
     count : items_count (e ∷ scope) (segment_item (same_segment j s) no_items) ≡ of_card s.card
     count = ap (λ c. sum c never) (count_there e scope j s.label (a_segment s) (segment_stands (nodes_of e) j s rest h)) ∙ as_card s.card
-
-    node : Items → List Failure
-    node items = node_failures (node_mark holder j items) s.usage s.card (items_count (e ∷ scope) items) items
 
     by : (b : Bool) → line.is_forbidden (Some s.usage) ≡ b → level_failures (e ∷ scope) holder (suc j) rest later ≡ [] → level_failures (e ∷ scope) holder j (segment s rest) (if b then later else segment_item (same_segment j s) later) ≡ []
     by true is behind =
         let x = x_is s.usage is in
-        no_more _ _ (ap node none.0 ∙ absent_holds (node_mark holder j no_items) s.usage s.card x (subst (λ u. formed.Agrees u s.card) x l.0.agrees).0) (ap (level_failures (e ∷ scope) holder (suc j) rest) none.1 ∙ behind)
+        rw none.0 (rw none.1 (no_more _ _ (absent_holds (node_mark holder j no_items) s.usage s.card x (subst (λ u. formed.Agrees u s.card) x l.0.agrees).0) behind))
     by false is behind =
-        no_more _ _ (ap node mine ∙ ap (λ c. often_failures (at_line 0) c s.usage s.card false) count ∙ given_holds (at_line 0) s.usage s.card is) (ap (level_failures (e ∷ scope) holder (suc j) rest) others ∙ behind)
+        rw (eq-eqb j j refl) (rw none.0 (rw none.1 (no_more _ _ (ap (λ c. often_failures (at_line 0) c s.usage s.card false) count ∙ given_holds (at_line 0) s.usage s.card is) behind)))
 levels_hold names e scope holder j (group x nodes rest) h d l g =
-    no_more _ _ (ap node mine ∙ ap (λ c. often_failures (at_line 0) c x.usage x.card false) count ∙ given_holds (at_line 0) x.usage x.card (group_allowed x nodes g.0))
-    (ap (level_failures (e ∷ scope) holder (suc j) rest) others ∙ levels_hold names e scope holder (suc j) rest (behind_group (nodes_of e) j x nodes rest h d) d.1 l.1 g.2)
-  where
-    later : Items
-    later = same (suc j) rest
-
-    none : (its j later ≡ no_items) × (beyond j later ≡ later)
-    none = none_yet j (suc j) rest (omega arith)
-
-    mine : its j (group_item (same_group j) (same 0 nodes) later) ≡ group_item (same_group j) (same 0 nodes) no_items
-    mine = ap (λ b. if b then group_item (same_group j) (same 0 nodes) (its j later) else no_items) (eq-eqb j j refl) ∙ ap (group_item (same_group j) (same 0 nodes)) none.0
-
-    others : beyond j (group_item (same_group j) (same 0 nodes) later) ≡ later
-    others = ap (λ b. if b then beyond j later else group_item (same_group j) (same 0 nodes) later) (eq-eqb j j refl) ∙ none.1
-
-    count : items_count (e ∷ scope) (group_item (same_group j) (same 0 nodes) no_items) ≡ of_card x.card
-    count = ap (λ c. sum c never) (count_there e scope j x.label (a_group x nodes) (group_stands (nodes_of e) j x nodes rest h)) ∙ as_card x.card
-
-    node : Items → List Failure
-    node items = node_failures (node_mark holder j items) x.usage x.card (items_count (e ∷ scope) items) items
+    let none = none_yet j (suc j) rest (omega arith) in
+    let count = ap (λ c. sum c never) (count_there e scope j x.label (a_group x nodes) (group_stands (nodes_of e) j x nodes rest h)) ∙ as_card x.card in
+    rw (eq-eqb j j refl) (rw none.0 (rw none.1
+    (no_more _ _ (ap (λ c. often_failures (at_line 0) c x.usage x.card false) count ∙ given_holds (at_line 0) x.usage x.card (group_allowed x nodes g.0))
+    (levels_hold names e scope holder (suc j) rest (behind_group (nodes_of e) j x nodes rest h d) d.1 l.1 g.2))))
 
 -- ---- what the items give
 
 pub items_hold : (profile : ProfileValue) (names : List (List ℕ)) (e : Element) (scope : List Element) (j : ℕ) (nodes : Forest) → Standing (nodes_of e) j nodes → Distinct (formed.labels nodes) → formed.EachSegment (formed.LawfulSegment names) nodes → formed.EachGroup formed.LawfulGroup nodes → items_failures profile profile (e ∷ scope) (nodes_of e) (same j nodes) ≡ []
 items_hold profile names e scope j nothing h d l g = refl
 items_hold profile names e scope j (segment s rest) h d l g =
-    by (line.is_forbidden (Some s.usage)) (items_hold profile names e scope (suc j) rest (behind_segment (nodes_of e) j s rest h d) d.1 l.1 g)
-  where
-    here : Stands (nodes_of e) j s.label (a_segment s)
-    here = segment_stands (nodes_of e) j s rest h
-
-    fields : segment_failures (sources profile (within_if (e ∷ scope) (Some (at_node j)))) profile 0 (same_rules s.fields) (fields_of (child (nodes_of e) j)) ≡ []
-    fields =
+    let here = segment_stands (nodes_of e) j s rest h in
+    let fields =
         ap₂ (λ w c. segment_failures (sources profile w) profile 0 (same_rules s.fields) (fields_of c)) (within_there e scope j s.label (a_segment s) here) here.child_is
-        ∙ segment_holds profile names s (e ∷ scope) l.0
-
-    by : (b : Bool) → items_failures profile profile (e ∷ scope) (nodes_of e) (same (suc j) rest) ≡ [] → items_failures profile profile (e ∷ scope) (nodes_of e) (if b then same (suc j) rest else segment_item (same_segment j s) (same (suc j) rest)) ≡ []
-    by true behind = behind
-    by false behind = no_more _ _ fields behind
+        ∙ segment_holds profile names s (e ∷ scope) l.0 in
+    let behind = items_hold profile names e scope (suc j) rest (behind_segment (nodes_of e) j s rest h d) d.1 l.1 g in
+    elim (line.is_forbidden (Some s.usage)) as (λ b. items_failures profile profile (e ∷ scope) (nodes_of e) (if b then same (suc j) rest else segment_item (same_segment j s) (same (suc j) rest)) ≡ [])
+    [ true ↦ behind | false ↦ no_more _ _ fields behind ]
 items_hold profile names e scope j (group x nodes rest) h d l g =
     let here = group_stands (nodes_of e) j x nodes rest h in
     let walks = within_there e scope j x.label (a_group x nodes) here in

@@ -4,6 +4,7 @@ use Rattle.std.specs.Prelude.{if◌then◌else◌, not, nat_lt, bytes_eq, unwrap
 use Rattle.std.proofs.lemmas.Bool.{le-ltb}
 use Rattle.std.proofs.lemmas.Slice.Eq.{bytes_eq-Decides}
 use Rattle.gw_profile.specs.Among.{Among, Distinct}
+use Rattle.gw_profile.proofs.Facts.{tells}
 use Rattle.gw_profile.specs.Line.{is_forbidden}
 use Rattle.gw_profile.specs.Shapes.{FieldValue, SegmentValue, GroupValue, Forest, nothing, segment, group}
 use Rattle.gw_profile.specs.WellFormed as formed
@@ -15,7 +16,7 @@ use Rattle.gw_resolve.specs.Intervals.{once, of_card, product}
 use Rattle.gw_resolve.specs.Order.{is_segment, is_group}
 use Rattle.gw_resolve.specs.Resolved.{copy, Rule, SegmentItem, GroupItem, Items, no_items, segment_item, group_item}
 use Rattle.gw_profile.specs.Labels.{labelled}
-use Rattle.gw_resolve.specs.Naming.{place_of, place_or, itself, walked_if, node_or, ends_at_segment, is_single_place, has_place, but_last, label_failures, segments_failures, walk_failures, rule_failures, path_failures, target_failures, rule, resolved_items}
+use Rattle.gw_resolve.specs.Naming.{place_of, place_or, itself, node_or, ends_at_segment, is_single_place, has_place, but_last, label_failures, segments_failures, walk_failures, rule_failures, path_failures, target_failures, rule, resolved_items}
 use Rattle.gw_resolve.proofs.Finding.{below_there}
 use Rattle.gw_check.proofs.Placing.{first_or_later}
 
@@ -69,9 +70,6 @@ holds rule mark false e = refl
 same_text : (x : List ℕ) → bytes_eq x x ≡ true
 same_text x = (bytes_eq-Decides x x).1 refl
 
-abbrev own_or : List ℕ → List ℕ → Option ℕ → Option ℕ
-own_or own label o = if bytes_eq own label then Some 0 else option_map suc o
-
 -- a label that is found stands among them
 has_label : (f : Forest) (label : List ℕ) (i : ℕ) → labelled f label ≡ Some i → Among label (formed.labels f)
 has_label nothing label i e = absurd (cc)
@@ -81,12 +79,11 @@ has_label (group g nodes rest) label i e =
     first_or_later (λ k. Among label (g.label ∷ formed.labels rest)) (bytes_eq g.label label) (labelled rest label) i (λ h. inl (sym ((bytes_eq-Decides g.label label).0 h))) (λ k at. inr (has_label rest label k at)) e
 
 -- behind another label it is found one later
-one_later : (own label : List ℕ) (rest : Forest) (i : ℕ) → (Among own (formed.labels rest) → ⊥) → labelled rest label ≡ Some i → own_or own label (labelled rest label) ≡ Some (suc i)
-one_later own label rest i other at = by (bytes_eq own label) refl
-  where
-    by : (b : Bool) → bytes_eq own label ≡ b → (if b then Some 0 else option_map suc (labelled rest label)) ≡ Some (suc i)
-    by true is = absurd (other (has_label rest own i (ap (labelled rest) ((bytes_eq-Decides own label).0 is) ∙ at)))
-    by false is = ap (option_map suc) at
+one_later : (own label : List ℕ) (rest : Forest) (i : ℕ) → (Among own (formed.labels rest) → ⊥) → labelled rest label ≡ Some i → (if bytes_eq own label then Some 0 else option_map suc (labelled rest label)) ≡ Some (suc i)
+one_later own label rest i other at = elim (tells (bytes_eq own label)) [
+  | inl is ↦ absurd (other (has_label rest own i (ap (labelled rest) ((bytes_eq-Decides own label).0 is) ∙ at)))
+  | inr is ↦ rw is (ap (option_map suc) at)
+]
 
 -- ---- the nodes from number j on, of all nodes of their level
 
@@ -202,17 +199,12 @@ group_of g = record { line = 0; label = g.label; walk = walk_all g.label }
 
 pub paths_hold : (e : Element) (scope : List Element) (j : ℕ) (nodes : Forest) → Standing (nodes_of e) j nodes → Distinct (formed.labels nodes) → formed.EachGroup formed.LawfulGroup nodes → path_failures (e ∷ scope) (same_items nodes) ≡ []
 paths_hold e scope j nothing h d g = refl
-paths_hold e scope j (segment s rest) h d g = by (is_forbidden (Some s.usage)) (paths_hold e scope (suc j) rest (behind_segment (nodes_of e) j s rest h d) d.1 g)
-  where
-    here : Stands (nodes_of e) j s.label (a_segment s)
-    here = segment_stands (nodes_of e) j s rest h
-
-    rules : flat_map (rule_failures (walked_if (e ∷ scope) (Some (walk_all s.label)))) (field_rules s.label s.fields) ≡ []
-    rules = ap (λ w. flat_map (rule_failures w) (field_rules s.label s.fields)) (walked_there e scope j s.label (a_segment s) here) ∙ rules_hold s (e ∷ scope) s.fields
-
-    by : (b : Bool) → path_failures (e ∷ scope) (same_items rest) ≡ [] → path_failures (e ∷ scope) (if b then same_items rest else raw.segment (segment_of s) (same_items rest)) ≡ []
-    by true later = later
-    by false later = no_more _ _ (no_more _ _ (segments_hold e scope j s.label (a_segment s) here refl) (none_there _ _ rules)) later
+paths_hold e scope j (segment s rest) h d g =
+    let here = segment_stands (nodes_of e) j s rest h in
+    let rules = ap (λ w. flat_map (rule_failures w) (field_rules s.label s.fields)) (walked_there e scope j s.label (a_segment s) here) ∙ rules_hold s (e ∷ scope) s.fields in
+    let later = paths_hold e scope (suc j) rest (behind_segment (nodes_of e) j s rest h d) d.1 g in
+    elim (is_forbidden (Some s.usage)) as (λ b. path_failures (e ∷ scope) (if b then same_items rest else raw.segment (segment_of s) (same_items rest)) ≡ [])
+    [ true ↦ later | false ↦ no_more _ _ (no_more _ _ (segments_hold e scope j s.label (a_segment s) here refl) (none_there _ _ rules)) later ]
 paths_hold e scope j (group x nodes rest) h d g =
     let here = group_stands (nodes_of e) j x nodes rest h in
     let inner = ap (λ w. path_failures w (same_items nodes)) (walked_there e scope j x.label (a_group x nodes) here) ∙ paths_hold (a_group x nodes) (e ∷ scope) 0 nodes (from_the_first nodes) g.0.distinct g.1 in
@@ -229,18 +221,11 @@ label_holds whole is_kind k j label x h kind order =
 pub targets_hold : (whole : Forest) (k j : ℕ) (nodes : Forest) → k ≤ j → Standing whole j nodes → Distinct (formed.labels nodes) → formed.EachGroup formed.LawfulGroup nodes → target_failures whole k (same_items nodes) ≡ []
 targets_hold whole k j nothing order h d g = refl
 targets_hold whole k j (segment s rest) order h d g =
-    by (is_forbidden (Some s.usage)) (targets_hold whole k (suc j) rest (omega (arith, order)) later d.1 g) (targets_hold whole j (suc j) rest (omega arith) later d.1 g)
-  where
-    here : Stands whole j s.label (a_segment s)
-    here = segment_stands whole j s rest h
-
-    later : Standing whole (suc j) rest
-    later = behind_segment whole j s rest h d
-
-    by : (b : Bool) → target_failures whole k (same_items rest) ≡ [] → target_failures whole j (same_items rest) ≡ [] → target_failures whole k (if b then same_items rest else raw.segment (segment_of s) (same_items rest)) ≡ []
-    by true passed others = passed
-    by false passed others =
-        no_more _ _ (label_holds whole is_segment k j s.label (a_segment s) here refl order) (ap (λ n. target_failures whole n (same_items rest)) (number_there whole j k s.label (a_segment s) here) ∙ others)
+    let here = segment_stands whole j s rest h in
+    let later = behind_segment whole j s rest h d in
+    let others = ap (λ n. target_failures whole n (same_items rest)) (number_there whole j k s.label (a_segment s) here) ∙ targets_hold whole j (suc j) rest (omega arith) later d.1 g in
+    elim (is_forbidden (Some s.usage)) as (λ b. target_failures whole k (if b then same_items rest else raw.segment (segment_of s) (same_items rest)) ≡ [])
+    [ true ↦ targets_hold whole k (suc j) rest (omega (arith, order)) later d.1 g | false ↦ no_more _ _ (label_holds whole is_segment k j s.label (a_segment s) here refl order) others ]
 targets_hold whole k j (group x nodes rest) order h d g =
     let here = group_stands whole j x nodes rest h in
     let number = number_there whole j k x.label (a_group x nodes) here in
@@ -254,25 +239,16 @@ targets_hold whole k j (group x nodes rest) order h d g =
 
 pub items_are : (tables : List raw.TableValue) (e : Element) (scope : List Element) (j : ℕ) (nodes : Forest) → Standing (nodes_of e) j nodes → Distinct (formed.labels nodes) → formed.EachGroup formed.LawfulGroup nodes → resolved_items tables (e ∷ scope) (nodes_of e) (same_items nodes) ≡ same j nodes
 items_are tables e scope j nothing h d g = refl
-items_are tables e scope j (segment s rest) h d g = by (is_forbidden (Some s.usage)) (items_are tables e scope (suc j) rest (behind_segment (nodes_of e) j s rest h d) d.1 g)
-  where
-    here : Stands (nodes_of e) j s.label (a_segment s)
-    here = segment_stands (nodes_of e) j s rest h
-
-    number : node_or 0 (nodes_of e) s.label ≡ j
-    number = number_there (nodes_of e) j 0 s.label (a_segment s) here
-
-    walks : place_or (e ∷ scope) (s.label ∷ []) ≡ at_node j
-    walks = place_is e scope j s.label (a_segment s) here
-
-    rules : map (rule tables (walked_if (e ∷ scope) (Some (walk_all s.label)))) (field_rules s.label s.fields) ≡ same_rules s.fields
-    rules = ap (λ w. map (rule tables w) (field_rules s.label s.fields)) (walked_there e scope j s.label (a_segment s) here) ∙ rules_are s (e ∷ scope) tables s.fields
-
-    by : (b : Bool) → resolved_items tables (e ∷ scope) (nodes_of e) (same_items rest) ≡ same (suc j) rest →
-        resolved_items tables (e ∷ scope) (nodes_of e) (if b then same_items rest else raw.segment (segment_of s) (same_items rest))
-        ≡ (if b then same (suc j) rest else segment_item (same_segment j s) (same (suc j) rest))
-    by true later = later
-    by false later = λ i. segment_item (record { line = 0; child = number i; place = Some (walks i); condition = None; rules = rules i }) (later i)
+items_are tables e scope j (segment s rest) h d g =
+    let here = segment_stands (nodes_of e) j s rest h in
+    let number = number_there (nodes_of e) j 0 s.label (a_segment s) here in
+    let walks = place_is e scope j s.label (a_segment s) here in
+    let rules = ap (λ w. map (rule tables w) (field_rules s.label s.fields)) (walked_there e scope j s.label (a_segment s) here) ∙ rules_are s (e ∷ scope) tables s.fields in
+    let later = items_are tables e scope (suc j) rest (behind_segment (nodes_of e) j s rest h d) d.1 g in
+    elim (is_forbidden (Some s.usage)) as
+    (λ b. resolved_items tables (e ∷ scope) (nodes_of e) (if b then same_items rest else raw.segment (segment_of s) (same_items rest))
+        ≡ (if b then same (suc j) rest else segment_item (same_segment j s) (same (suc j) rest)))
+    [ true ↦ later | false ↦ λ i. segment_item (record { line = 0; child = number i; place = Some (walks i); condition = None; rules = rules i }) (later i) ]
 items_are tables e scope j (group x nodes rest) h d g =
     let here = group_stands (nodes_of e) j x nodes rest h in
     let number = number_there (nodes_of e) j 0 x.label (a_group x nodes) here in

@@ -1,8 +1,9 @@
 -- What a map keeps is kept where its labels are looked up.
-use Rattle.std.proofs.Common.{◌≡◌, ℕ, zero, suc, ◌≤◌, inl, inr, Bool, true, false, List, [], ◌∷◌, map, length, Some, refl, sym, ap, ◌∙◌, subst, arith}
+use Rattle.std.proofs.Common.{◌≡◌, ℕ, zero, suc, ◌≤◌, inl, inr, Bool, true, false, List, [], ◌∷◌, map, length, Some, sym, ap, subst, arith}
 use Rattle.std.specs.Prelude.{if◌then◌else◌, bytes_eq, codes, ◌==◌, unwrap_or}
 use Rattle.std.specs.List.{AllByRecursion}
-use Rattle.std.proofs.lemmas.Bool.Decides.{eqb_tells}
+use Rattle.std.proofs.lemmas.Bool.{eqb-true}
+use Rattle.std.proofs.lemmas.Simd.{map-map}
 use Rattle.std.proofs.lemmas.Slice.Eq.{bytes_eq-Decides}
 use Rattle.gw_er7.specs.Names as Names
 use Rattle.gw_er7.specs.Message.{first_field}
@@ -15,11 +16,11 @@ use Rattle.gw_maplang.specs.Shapes as raw
 use Rattle.gw_maplang.specs.Lawful as theirs
 use Rattle.gw_resolve.specs.Places.{Element, the_whole, child, nodes_of_child, name_of, within}
 use Rattle.gw_resolve.specs.Resolved.{Alternative, Rule}
-use Rattle.gw_resolve.specs.Order.{is_segment, is_group, are_placed}
-use Rattle.gw_resolve.specs.Lawful.{LawfulRows, LawfulSource, LawfulLeaf, LawfulAt, LawfulLeaves, LawfulMaking, LawfulRule, LawfulItems, places}
+use Rattle.gw_resolve.specs.Order.{is_segment, are_placed}
+use Rattle.gw_resolve.specs.Lawful.{LawfulRows, LawfulSource, LawfulLeaf, LawfulAt, LawfulLeaves, LawfulMaking, LawfulRule, LawfulItems, place}
 use Rattle.gw_profile.specs.Labels.{labelled}
 use Rattle.gw_resolve.specs.Naming.{node_or, walked_if, place_or, target_failures, naming_failures, no_rows, source, leaf, alternative, at_leaf, making, rule, resolved_items, resolved}
-use Rattle.gw_check.proofs.Placing.{first_or_later, nil_both, named, number_is, segment_parts, group_parts, flat_parts, placed_where_named}
+use Rattle.gw_check.proofs.Placing.{first_or_later, nil_both, alike, segment_parts, group_parts, flat_parts, placed_where_named}
 
 -- ---- fields of target segments
 
@@ -27,15 +28,9 @@ use Rattle.gw_check.proofs.Placing.{first_or_later, nil_both, named, number_is, 
 abbrev Fair : SegmentValue → Type 0
 Fair s = first_field s.name ≤ theirs.least_field s.label
 
-three_long : (name : List ℕ) → Names.is_name name ≡ true → length name ≡ 3
-three_long name e = elim (eqb_tells (length name) 3) [ inl h ↦ h.1 | inr h ↦ absurd (let n : false ≡ true = sym h.0 ∙ (both (length name == 3) (Names.is_named name) e).0 in cc) ]
-
 is_header_name : (name : List ℕ) → length name ≡ 3 → Names.is_header name ≡ true → name ≡ codes "MSH"
 is_header_name (a ∷ b ∷ c ∷ []) n e = header_is (a ∷ b ∷ c ∷ []) e
 is_header_name name n e = absurd (omega (arith, n))
-
-one_at_least : (label : List ℕ) → 1 ≤ theirs.least_field label
-one_at_least label = elim (theirs.is_msh label) as (λ t. 1 ≤ (if t then 3 else 1)) [ true ↦ omega arith | false ↦ omega arith ]
 
 fair_header : (s : SegmentValue) → profiles.IsHeader s → Fair s
 fair_header s h = subst (λ n. first_field n ≤ theirs.least_field s.label) (sym h.name) (subst (λ l. first_field (codes "MSH") ≤ theirs.least_field l) (sym h.label) (omega arith))
@@ -43,10 +38,10 @@ fair_header s h = subst (λ n. first_field n ≤ theirs.least_field s.label) (sy
 fair_other : (s : SegmentValue) → Names.is_name s.name ≡ true → profiles.IsOther s → Fair s
 fair_other s is other =
     let low : first_field s.name ≡ 1 = elim (tells (Names.is_header s.name)) [
-      | inl h ↦ absurd (other.0 (is_header_name s.name (three_long s.name is) h))
+      | inl h ↦ absurd (other.0 (is_header_name s.name (eqb-true (length s.name) 3 (both (length s.name == 3) (Names.is_named s.name) is).0) h))
       | inr h ↦ ap (λ t. if t then 3 else 1) h
     ] in
-    subst (λ n. n ≤ theirs.least_field s.label) (sym low) (one_at_least s.label)
+    elim (theirs.is_msh s.label) as (λ t. first_field s.name ≤ (if t then 3 else 1)) [ true ↦ omega (arith, low) | false ↦ omega (arith, low) ]
 
 fair_others : (tables : List (List ℕ)) (nodes : Forest) → profiles.EachSegment (profiles.LawfulSegment tables) nodes → profiles.EachSegment profiles.IsOther nodes → profiles.EachSegment Fair nodes
 fair_others tables nothing h o = tt
@@ -108,12 +103,8 @@ at_kept : (tables : List raw.TableValue) (names : List (List ℕ)) (scope : List
 at_kept tables names scope repeated [] t h = tt
 at_kept tables names scope repeated (l ∷ ls) t h = (record { comp = h.0.0.comp.0; sub = h.0.0.sub.0; each = (leaf_kept tables names scope repeated l.leaf t h.0.1, others_kept tables names scope repeated l.others t h.0.2) }, at_kept tables names scope repeated ls t h.1)
 
-same_places : (tables : List raw.TableValue) (scope : List Element) (ls : List raw.LeafValue) → places (map (at_leaf tables scope) ls) ≡ theirs.places ls
-same_places tables scope [] = refl
-same_places tables scope (l ∷ ls) = ap (λ ps. l.place ∷ ps) (same_places tables scope ls)
-
 leaves_kept : (tables : List raw.TableValue) (names : List (List ℕ)) (scope : List Element) (repeated : Bool) (ls : List raw.LeafValue) → AllByRecursion theirs.LawfulTable tables → theirs.LawfulLeaves names repeated ls → LawfulLeaves repeated (map (at_leaf tables scope) ls)
-leaves_kept tables names scope repeated ls t h = record { each = at_kept tables names scope repeated ls t h.each; distinct = subst Distinct (sym (same_places tables scope ls)) h.distinct }
+leaves_kept tables names scope repeated ls t h = record { each = at_kept tables names scope repeated ls t h.each; distinct = subst Distinct (sym (map-map place (at_leaf tables scope) ls)) h.distinct }
 
 making_kept : (tables : List raw.TableValue) (names : List (List ℕ)) (scope : List Element) (m : raw.Making) → AllByRecursion theirs.LawfulTable tables → theirs.LawfulMaking names m → LawfulMaking (making tables scope m)
 making_kept tables names scope (raw.Repeats from c ls) t h = leaves_kept tables names scope true ls t h.2
@@ -127,32 +118,24 @@ each_kept tables names scope name label [] fair t h = tt
 each_kept tables names scope name label (r ∷ rs) fair t h =
     (record { field = omega (arith, fair, h.0.0.0); making = making_kept tables names scope r.making t h.0.1 }, each_kept tables names scope name label rs fair t h.1)
 
-same_fields : (tables : List raw.TableValue) (scope : List Element) (rs : List raw.RuleValue) → map (λ (r : Rule). r.field) (map (rule tables scope) rs) ≡ theirs.rule_fields rs
-same_fields tables scope [] = refl
-same_fields tables scope (r ∷ rs) = ap (λ ns. r.field ∷ ns) (same_fields tables scope rs)
-
 -- ---- items
 
 items_kept : (tables : List raw.TableValue) (names : List (List ℕ)) (scope : List Element) (nodes : Forest) (j : ℕ) (items : raw.Items) → AllByRecursion theirs.LawfulTable tables → theirs.LawfulItems names items → profiles.EachSegment Fair nodes → target_failures nodes j items ≡ [] → LawfulItems nodes (resolved_items tables scope nodes items)
 items_kept tables names scope nodes j raw.nothing t h f e = tt
 items_kept tables names scope nodes j (raw.segment s rest) t h f e =
     let p = segment_parts nodes j s rest e in
-    let n = named nodes is_segment j s.line s.label refl p.label in
-    let fair : first_field (name_of (child nodes (node_or 0 nodes s.label))) ≤ theirs.least_field s.label =
-    subst (λ k. first_field (name_of (child nodes k)) ≤ theirs.least_field s.label) (sym (number_is nodes s.label n.number 0 n.at)) (fair_child nodes s.label n.number f n.at n.kind) in
+    let fair = fair_child nodes s.label (node_or 0 nodes s.label) f p.0.at p.0.kind in
     let inner = walked_if scope s.source in (
       record {
         each = each_kept tables names inner (name_of (child nodes (node_or 0 nodes s.label))) s.label s.rules fair t h.0.each;
-        distinct = subst Distinct (sym (same_fields tables inner s.rules)) h.0.distinct;
+        distinct = subst Distinct (sym (map-map (λ (r : Rule). r.field) (rule tables inner) s.rules)) h.0.distinct;
       },
-      items_kept tables names scope nodes (node_or j nodes s.label) rest t h.1 f p.others,
+      items_kept tables names scope nodes (node_or j nodes s.label) rest t h.1 f p.1,
     )
 items_kept tables names scope nodes j (raw.group g items rest) t h f e =
-    let p = group_parts nodes j g items rest e in
-    let n = named nodes is_group j g.line g.label refl p.label in
-    let same = number_is nodes g.label n.number j n.at ∙ sym (number_is nodes g.label n.number 0 n.at) in (
+    let p = group_parts nodes j g items rest e in (
       items_kept tables names (within scope (place_or scope g.walk.path)) (nodes_of_child nodes (node_or 0 nodes g.label)) 0 items t h.1 (fair_below nodes (node_or 0 nodes g.label) f)
-          (subst (λ c. target_failures (nodes_of_child nodes c) 0 items ≡ []) same p.inner),
+          (subst (λ c. target_failures (nodes_of_child nodes c) 0 items ≡ []) (alike nodes g.label j p.label.at) p.inner),
       items_kept tables names scope nodes (node_or j nodes g.label) rest t h.2 f p.others,
     )
 items_kept tables names scope nodes j (raw.flat w items rest) t h f e =

@@ -2,7 +2,6 @@ pub mod Counted
 pub mod Stepped
 pub mod Within
 pub mod Missing
-pub mod Collecting
 pub mod Accounting
 pub mod Adding
 pub mod Placing

@@ -1,6 +1,6 @@
 -- Where the rules on labels hold, items stand in the order of their nodes, and keep what every map keeps.
 use Rattle.std.proofs.Common.{◌≡◌, ℕ, suc, ◌≤◌, Bool, true, false, List, [], ◌∷◌, ◌++◌, Option, Some, None, refl, sym, ap, ap₂, ◌∙◌, subst, arith}
-use Rattle.std.specs.Prelude.{if◌then◌else◌, option_map, nat_lt, nat_le, ◌&&◌, not, bytes_eq, unwrap_or, option_and_then}
+use Rattle.std.specs.Prelude.{if◌then◌else◌, option_map, nat_lt, ◌&&◌, not, bytes_eq, unwrap_or, option_and_then}
 use Rattle.std.specs.List.{list_all}
 use Rattle.std.proofs.lemmas.Bool.{le-leb, eq-eqb}
 use Rattle.std.proofs.lemmas.List.Folds.{list_all-append}
@@ -12,7 +12,7 @@ use Rattle.gw_maplang.specs.Lawful as theirs
 use Rattle.gw_resolve.specs.Failures.{Mark, at_line, Failure, fails, or_later}
 use Rattle.gw_resolve.specs.Places.{Element, child, nodes_of_child, within}
 use Rattle.gw_resolve.specs.Resolved.{Items, first_child}
-use Rattle.gw_resolve.specs.Order.{is_segment, is_group, all_for, are_placed, follows, number_or}
+use Rattle.gw_resolve.specs.Order.{is_segment, is_group, all_for, are_placed, follows}
 use Rattle.gw_profile.specs.Labels.{labelled}
 use Rattle.gw_resolve.specs.Naming.{node_or, first_or, labels, are_one, label_failures, target_failures, resolved_items, place_or}
 
@@ -30,12 +30,6 @@ pub not_broken : (rule : ℕ) (mark : Mark) (broken : Bool) → fails rule mark 
 not_broken rule mark true e = absurd (cc)
 not_broken rule mark false e = refl
 
-three : (a b c : Bool) → a ≡ true → b ≡ true → c ≡ true → a && b && c ≡ true
-three a b c e f g = λ i. e i && f i && g i
-
-four : (a b c d : Bool) → a ≡ true → b ≡ true → c ≡ true → d ≡ true → a && b && c && d ≡ true
-four a b c d e f g h = λ i. e i && f i && g i && h i
-
 -- a label is that of the first node, or is found one later than behind it
 pub first_or_later : (P : ℕ → Type 0) (own : Bool) (o : Option ℕ) (k : ℕ) → (own ≡ true → P 0) → ((i : ℕ) → o ≡ Some i → P (suc i)) → (if own then Some 0 else option_map suc o) ≡ Some k → P k
 first_or_later P true o k first later e = let same : 0 ≡ k = cc in subst P same (first refl)
@@ -44,28 +38,24 @@ first_or_later P false (Some i) k first later e = let same : suc i ≡ k = cc in
 
 -- a label that names a node of this kind, none of a lower number than j
 pub record Named (nodes : Forest) (is_kind : Option Element → Bool) (j : ℕ) (label : List ℕ) : Type 0 where
-  pub number : ℕ
-  pub at : labelled nodes label ≡ Some number
-  pub kind : is_kind (child nodes number) ≡ true
-  pub order : j ≤ number
+  pub at : labelled nodes label ≡ Some (node_or 0 nodes label)
+  pub kind : is_kind (child nodes (node_or 0 nodes label)) ≡ true
+  pub order : j ≤ node_or 0 nodes label
 
 named_by : (nodes : Forest) (is_kind : Option Element → Bool) (j : ℕ) (label : List ℕ) (o : Option ℕ) → is_kind None ≡ false → labelled nodes label ≡ o → is_kind (option_and_then (child nodes) o) ≡ true → nat_lt (unwrap_or o j) j ≡ false → Named nodes is_kind j label
 named_by nodes is_kind j label None none at kind order = absurd (cc)
-named_by nodes is_kind j label (Some k) none at kind order = record {
-  number = k;
-  at = at;
-  kind = kind;
-  order = omega (arith, lt_is (suc k) j order);
-}
+named_by nodes is_kind j label (Some k) none at kind order =
+    let there : node_or 0 nodes label ≡ k = ap (λ o. unwrap_or o 0) at in
+    record { at = at ∙ ap Some (sym there); kind = subst (λ n. is_kind (child nodes n) ≡ true) (sym there) kind; order = omega (arith, lt_is (suc k) j order, there) }
 
-pub named : (nodes : Forest) (is_kind : Option Element → Bool) (j line : ℕ) (label : List ℕ) → is_kind None ≡ false → label_failures nodes is_kind j line label ≡ [] → Named nodes is_kind j label
+named : (nodes : Forest) (is_kind : Option Element → Bool) (j line : ℕ) (label : List ℕ) → is_kind None ≡ false → label_failures nodes is_kind j line label ≡ [] → Named nodes is_kind j label
 named nodes is_kind j line label none e =
     let p = nil_both (fails 3 (at_line line) (not (is_kind (option_and_then (child nodes) (labelled nodes label))))) (fails 3 (at_line line) (nat_lt (node_or j nodes label) j)) e in
     named_by nodes is_kind j label (labelled nodes label) none refl (not_false _ (not_broken 3 (at_line line) _ p.0)) (not_broken 3 (at_line line) _ p.1)
 
 -- its number, whatever stands in for none
-pub number_is : (nodes : Forest) (label : List ℕ) (k j : ℕ) → labelled nodes label ≡ Some k → node_or j nodes label ≡ k
-number_is nodes label k j e = ap (λ o. unwrap_or o j) e
+pub alike : (nodes : Forest) (label : List ℕ) (j : ℕ) → labelled nodes label ≡ Some (node_or 0 nodes label) → node_or j nodes label ≡ node_or 0 nodes label
+alike nodes label j e = ap (λ o. unwrap_or o j) e
 
 -- ---- items that have labels
 
@@ -80,15 +70,13 @@ some_labels names items h some e = absurd (cc)
 
 -- ---- the failures of each kind of item
 
-pub record SegmentParts (nodes : Forest) (j : ℕ) (s : raw.SegmentItem) (rest : raw.Items) : Type 0 where
-  pub label : label_failures nodes is_segment j s.line s.label ≡ []
-  pub others : target_failures nodes (node_or j nodes s.label) rest ≡ []
-
-pub segment_parts : (nodes : Forest) (j : ℕ) (s : raw.SegmentItem) (rest : raw.Items) → target_failures nodes j (raw.segment s rest) ≡ [] → SegmentParts nodes j s rest
-segment_parts nodes j s rest e = let p = nil_both (label_failures nodes is_segment j s.line s.label) (target_failures nodes (node_or j nodes s.label) rest) e in record { label = p.0; others = p.1 }
+pub segment_parts : (nodes : Forest) (j : ℕ) (s : raw.SegmentItem) (rest : raw.Items) → target_failures nodes j (raw.segment s rest) ≡ [] → Named nodes is_segment j s.label × (target_failures nodes (node_or j nodes s.label) rest ≡ [])
+segment_parts nodes j s rest e =
+    let p = nil_both (label_failures nodes is_segment j s.line s.label) (target_failures nodes (node_or j nodes s.label) rest) e in
+    (named nodes is_segment j s.line s.label refl p.0, p.1)
 
 pub record GroupParts (nodes : Forest) (j : ℕ) (g : raw.GroupItem) (items rest : raw.Items) : Type 0 where
-  pub label : label_failures nodes is_group j g.line g.label ≡ []
+  pub label : Named nodes is_group j g.label
   pub inner : target_failures (nodes_of_child nodes (node_or j nodes g.label)) 0 items ≡ []
   pub others : target_failures nodes (node_or j nodes g.label) rest ≡ []
 
@@ -98,7 +86,7 @@ group_parts nodes j g items rest e =
     let b = target_failures (nodes_of_child nodes (node_or j nodes g.label)) 0 items in
     let p = nil_both (or_later a b) (target_failures nodes (node_or j nodes g.label) rest) e in
     let q = later_nil a b p.0 in
-    record { label = q.0; inner = q.1; others = p.1 }
+    record { label = named nodes is_group j g.line g.label refl q.0; inner = q.1; others = p.1 }
 
 pub record FlatParts (nodes : Forest) (j : ℕ) (items rest : raw.Items) : Type 0 where
   pub one : are_one (labels items) ≡ true
@@ -116,19 +104,14 @@ flat_parts nodes j f items rest e =
     let r = nil_both a b q.0 in
     record { one = not_false _ (not_broken 3 (at_line f.line) _ r.0); order = not_broken 3 (at_line f.line) _ r.1; inner = q.1; others = p.1 }
 
-not_less : (j m k : ℕ) → nat_lt m j ≡ false → m ≡ k → j ≤ k
-not_less j m k e is = omega (arith, lt_is (suc m) j e, is)
-
 -- the first label names a node
-first_named : (names : List (List ℕ)) (nodes : Forest) (j : ℕ) (items : raw.Items) → theirs.LawfulItems names items → (items ≡ raw.nothing → ⊥) → target_failures nodes j items ≡ [] → (k : ℕ) × (labelled nodes (first_or (labels items)) ≡ Some k)
+first_named : (names : List (List ℕ)) (nodes : Forest) (j : ℕ) (items : raw.Items) → theirs.LawfulItems names items → (items ≡ raw.nothing → ⊥) → target_failures nodes j items ≡ [] → labelled nodes (first_or (labels items)) ≡ Some (node_or 0 nodes (first_or (labels items)))
 first_named names nodes j raw.nothing h some e = absurd (some refl)
-first_named names nodes j (raw.segment s rest) h some e =
-    let n = named nodes is_segment j s.line s.label refl (segment_parts nodes j s rest e).label in (n.number, n.at)
-first_named names nodes j (raw.group g items rest) h some e =
-    let n = named nodes is_group j g.line g.label refl (group_parts nodes j g items rest e).label in (n.number, n.at)
+first_named names nodes j (raw.segment s rest) h some e = (segment_parts nodes j s rest e).0.at
+first_named names nodes j (raw.group g items rest) h some e = (group_parts nodes j g items rest e).label.at
 first_named names nodes j (raw.flat f items rest) h some e =
-    let n = first_named names nodes 0 items h.1 h.0.some (flat_parts nodes j f items rest e).inner in
-    (n.0, ap (labelled nodes) (first_of_both (labels items) (labels rest) (some_labels names items h.1 h.0.some)) ∙ n.1)
+    subst (λ l. labelled nodes l ≡ Some (node_or 0 nodes l)) (sym (first_of_both (labels items) (labels rest) (some_labels names items h.1 h.0.some)))
+    (first_named names nodes 0 items h.1 h.0.some (flat_parts nodes j f items rest e).inner)
 
 -- the number of the first node
 first_is : (tables : List raw.TableValue) (scope : List Element) (names : List (List ℕ)) (nodes : Forest) (items : raw.Items) → theirs.LawfulItems names items → (items ≡ raw.nothing → ⊥) → first_child (resolved_items tables scope nodes items) ≡ Some (node_or 0 nodes (first_or (labels items)))
@@ -154,66 +137,60 @@ fit : (tables : List raw.TableValue) (names : List (List ℕ)) (scope : List Ele
 fit tables names scope nodes raw.nothing h = record { placed = λ j e. refl; same = λ j k label e all is. refl }
 fit tables names scope nodes (raw.segment s rest) h =
     let behind = fit tables names scope nodes rest h.1 in
-    let others = resolved_items tables scope nodes rest in
+    let number = node_or 0 nodes s.label in
     record {
       placed = λ j e.
           let p = segment_parts nodes j s rest e in
-          let n = named nodes is_segment j s.line s.label refl p.label in
-          subst (λ c. nat_le j c && is_segment (child nodes c) && are_placed nodes c others ≡ true) (sym (number_is nodes s.label n.number 0 n.at))
-          (three _ _ _ (le-leb j n.number n.order) n.kind (behind.placed n.number (subst (λ c. target_failures nodes c rest ≡ []) (number_is nodes s.label n.number j n.at) p.others)));
+          let later = behind.placed number (subst (λ c. target_failures nodes c rest ≡ []) (alike nodes s.label j p.0.at) p.1) in
+          λ i. le-leb j number p.0.order i && p.0.kind i && later i;
       same = λ j k label e all is.
           let p = segment_parts nodes j s rest e in
-          let n = named nodes is_segment j s.line s.label refl p.label in
           let a = both (bytes_eq label s.label) (list_all (bytes_eq label) (labels rest)) all in
-          let here : node_or 0 nodes s.label ≡ k = ap (node_or 0 nodes) (sym ((bytes_eq-Decides label s.label).0 a.0)) ∙ is in
-          let number : n.number ≡ k = sym (number_is nodes s.label n.number 0 n.at) ∙ here in
-          three _ _ _ (eq-eqb (node_or 0 nodes s.label) k here) (subst (λ c. is_segment (child nodes c) ≡ true) number n.kind) (behind.same (node_or j nodes s.label) k label p.others a.1 is);
+          let here : number ≡ k = ap (node_or 0 nodes) (sym ((bytes_eq-Decides label s.label).0 a.0)) ∙ is in
+          let kind = subst (λ c. is_segment (child nodes c) ≡ true) here p.0.kind in
+          λ i. eq-eqb number k here i && kind i && behind.same (node_or j nodes s.label) k label p.1 a.1 is i;
     }
 fit tables names scope nodes (raw.group g items rest) h =
     let behind = fit tables names scope nodes rest h.2 in
-    let others = resolved_items tables scope nodes rest in
+    let number = node_or 0 nodes g.label in
     let inner = within scope (place_or scope g.walk.path) in
-    let below = fit tables names inner (nodes_of_child nodes (node_or 0 nodes g.label)) items h.1 in
-    let made = resolved_items tables inner (nodes_of_child nodes (node_or 0 nodes g.label)) items in
+    let below = fit tables names inner (nodes_of_child nodes number) items h.1 in
     record {
       placed = λ j e.
           let p = group_parts nodes j g items rest e in
-          let n = named nodes is_group j g.line g.label refl p.label in
-          let same = number_is nodes g.label n.number j n.at ∙ sym (number_is nodes g.label n.number 0 n.at) in
+          let same = alike nodes g.label j p.label.at in
           let within_it = below.placed 0 (subst (λ c. target_failures (nodes_of_child nodes c) 0 items ≡ []) same p.inner) in
-          subst (λ c. nat_le j c && is_group (child nodes c) && are_placed (nodes_of_child nodes c) 0 made && are_placed nodes c others ≡ true) (sym (number_is nodes g.label n.number 0 n.at))
-          (four _ _ _ _ (le-leb j n.number n.order) n.kind (subst (λ c. are_placed (nodes_of_child nodes c) 0 made ≡ true) (number_is nodes g.label n.number 0 n.at) within_it) (behind.placed n.number (subst (λ c. target_failures nodes c rest ≡ []) (number_is nodes g.label n.number j n.at) p.others)));
+          let later = behind.placed number (subst (λ c. target_failures nodes c rest ≡ []) same p.others) in
+          λ i. le-leb j number p.label.order i && p.label.kind i && within_it i && later i;
       same = λ j k label e all is.
           let p = group_parts nodes j g items rest e in
-          let n = named nodes is_group j g.line g.label refl p.label in
           let a = both (bytes_eq label g.label) (list_all (bytes_eq label) (labels rest)) all in
-          let here : node_or 0 nodes g.label ≡ k = ap (node_or 0 nodes) (sym ((bytes_eq-Decides label g.label).0 a.0)) ∙ is in
-          let number : n.number ≡ k = sym (number_is nodes g.label n.number 0 n.at) ∙ here in
-          let same = number_is nodes g.label n.number j n.at ∙ sym (number_is nodes g.label n.number 0 n.at) in
-          let within_it = below.placed 0 (subst (λ c. target_failures (nodes_of_child nodes c) 0 items ≡ []) same p.inner) in
-          four _ _ _ _ (eq-eqb (node_or 0 nodes g.label) k here) (subst (λ c. is_group (child nodes c) ≡ true) number n.kind)
-          (subst (λ c. are_placed (nodes_of_child nodes c) 0 made ≡ true) here within_it) (behind.same (node_or j nodes g.label) k label p.others a.1 is);
+          let here : number ≡ k = ap (node_or 0 nodes) (sym ((bytes_eq-Decides label g.label).0 a.0)) ∙ is in
+          let within_it = below.placed 0 (subst (λ c. target_failures (nodes_of_child nodes c) 0 items ≡ []) (alike nodes g.label j p.label.at) p.inner) in
+          let those = resolved_items tables inner (nodes_of_child nodes number) items in
+          let kinds = subst (λ c. is_group (child nodes c) && are_placed (nodes_of_child nodes c) 0 those ≡ true) here (λ i. p.label.kind i && within_it i) in
+          let parts = both (is_group (child nodes k)) (are_placed (nodes_of_child nodes k) 0 those) kinds in
+          λ i. eq-eqb number k here i && parts.0 i && parts.1 i && behind.same (node_or j nodes g.label) k label p.others a.1 is i;
     }
 fit tables names scope nodes (raw.flat f items rest) h =
     let behind = fit tables names scope nodes rest h.2 in
-    let others = resolved_items tables scope nodes rest in
     let inner = within scope (place_or scope f.walk.path) in
     let below = fit tables names inner nodes items h.1 in
-    let made = resolved_items tables inner nodes items in
+    let first = first_or (labels items) in
+    let number = node_or 0 nodes first in
     record {
       placed = λ j e.
           let p = flat_parts nodes j f items rest e in
-          let n = first_named names nodes 0 items h.1 h.0.some p.inner in
-          let number = number_is nodes (first_or (labels items)) n.0 0 n.1 in
-          let order : j ≤ n.0 = not_less j (node_or j nodes (first_or (labels items))) n.0 p.order (number_is nodes (first_or (labels items)) n.0 j n.1) in
-          let first : first_child made ≡ Some n.0 = first_is tables inner names nodes items h.1 h.0.some ∙ ap Some number in
-          subst (λ o. follows o j && all_for nodes (number_or j o) made && are_placed nodes (number_or j o) others ≡ true) (sym first)
-          (three _ _ _ (le-leb j n.0 order) (below.same 0 n.0 (first_or (labels items)) p.inner (one_all (labels items) p.one) number)
-          (behind.placed n.0 (subst (λ c. target_failures nodes c rest ≡ []) (number_is nodes (first_or (labels items)) n.0 j n.1) p.others)));
+          let same = alike nodes first j (first_named names nodes 0 items h.1 h.0.some p.inner) in
+          let order : j ≤ number = omega (arith, lt_is (suc (node_or j nodes first)) j p.order, same) in
+          let within_it = below.same 0 number first p.inner (one_all (labels items) p.one) refl in
+          let later = behind.placed number (subst (λ c. target_failures nodes c rest ≡ []) same p.others) in
+          subst (λ o. follows o j && all_for nodes (unwrap_or o j) (resolved_items tables inner nodes items) && are_placed nodes (unwrap_or o j) (resolved_items tables scope nodes rest) ≡ true)
+          (sym (first_is tables inner names nodes items h.1 h.0.some)) (λ i. le-leb j number order i && within_it i && later i);
       same = λ j k label e all is.
           let p = flat_parts nodes j f items rest e in
           let a = all_both (bytes_eq label) (labels items) (labels rest) all in
-          ap₂ (λ s t. s && t) (below.same 0 k label p.inner a.0 is) (behind.same (node_or j nodes (first_or (labels items))) k label p.others a.1 is);
+          λ i. below.same 0 k label p.inner a.0 is i && behind.same (node_or j nodes first) k label p.others a.1 is i;
     }
 
 -- each item gives a node of its level, in their order

@@ -56,6 +56,3 @@ module _ (scope : List Element) (holder : ℕ) (nodes : List Node) (items : List
 -- what is lent from there on
 pub from_there : {X : Type 0} (l : List X) (done : ℕ) → take (length l - done) (drop done l) ≡ drop done l
 from_there l done = take_all (length l - done) (drop done l) (omega (arith, length-drop done l))
-
-pub more_within : {X : Type 0} (l : List X) (done count : ℕ) → done ≤ length l → count ≤ length (drop done l) → done + count ≤ length l
-more_within l done count low h = omega (arith, low, h, length-drop done l)

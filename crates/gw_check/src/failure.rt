@@ -16,13 +16,8 @@ fn lesser(a: Failure, least: Option<Failure>) -> Failure
     ensures { failure result ≡ lesser (failure a) (option_map failure least) }
 {
     match least {
-        None => a,
-        Some(b) => {
-            if is_before(b, a) {
-                return b;
-            }
-            a
-        }
+        Some(b) if is_before(b, a) => b,
+        _ => a,
     }
 }
 

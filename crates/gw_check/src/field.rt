@@ -52,10 +52,7 @@ fn line_of(holder: u32, rule: Option<&Rule>) -> u32
 fn is_missing(rule: Option<&Rule>) -> bool
     ensures { (tables : List TableValue) → result ≡ spec.has_no_rule (some_rule tables rule.entry) }
 {
-    match rule {
-        None => true,
-        Some(_) => false,
-    }
+    rule.is_none()
 }
 
 // What the field asks of how often its rule gives it.

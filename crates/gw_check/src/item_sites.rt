@@ -1,5 +1,5 @@
 //! What the items of a map make.
-ghost use Rattle.std.specs.Prelude.{◌≡◌, ◌++◌, ◌∷◌, [], ℕ, List, Some, IfOk, option_to_list};
+ghost use Rattle.std.specs.Prelude.{◌≡◌, ◌++◌, ◌∷◌, [], List, Some, IfOk, option_to_list};
 ghost use Rattle.gw_maplang.specs.Shapes.{TableValue};
 ghost use Rattle.gw_resolve.specs.Positions.{positions};
 ghost use Rattle.gw_resolve.specs.Resolved.{no_items, first_child as spec_first_child};
@@ -77,8 +77,7 @@ fn add_condition(
         field: 0,
         part: LeafPlace { comp: 0, sub: 0 },
     };
-    add_site(alloc, sites, line, node, Origin::Read(from))?;
-    Ok(())
+    add_site(alloc, sites, line, node, Origin::Read(from))
 }
 
 // A segment at this position.

@@ -1,39 +1,19 @@
 //! The items of a level: how often they come, and for which target node.
-ghost use Rattle.std.specs.Prelude.{◌≡◌, IfOk, option_map};
+ghost use Rattle.std.specs.Prelude.{◌≡◌, IfOk};
 ghost use Rattle.gw_check.specs.own.ItemByItem.{CountsOne, CountsAll, Leads};
 ghost use Rattle.gw_leaves.specs.Counts as spec;
-ghost use Rattle.gw_resolve.specs.Places as places;
-ghost use Rattle.gw_resolve.specs.Seen.{interval, saturated, place as seen_place, some_condition, scope as walked};
+ghost use Rattle.gw_resolve.specs.Intervals as intervals;
+ghost use Rattle.gw_resolve.specs.Seen.{interval, saturated, some_condition, scope as walked};
 ghost use Rattle.gw_check.specs.Levels.{is_of};
 
 use crate::level::{count_at, count_if};
-use gw_resolve::{FieldCondition, Interval, Item, ScopeNode, ScopePath, child_of, enter, never};
+use gw_resolve::{FieldCondition, Interval, Item, ScopeNode, child_of, enter, never};
 use std::alloc::{AllocError, Global};
 
-// How often the occurrences at a place come that meet a condition, where there is one.
-fn chosen_at(
-    scope: &[ScopeNode<'_, '_>],
-    place: &ScopePath,
-    condition: &Option<FieldCondition>,
-) -> Interval
-    ensures { interval result ≡ saturated (spec.chosen_count (some_condition condition.now) (places.count_at (walked scope.now) (seen_place place.now))) }
+// How often of these come that meet a condition, where there is one.
+fn chosen(condition: &Option<FieldCondition>, count: Interval) -> Interval
+    ensures { (full : intervals.Interval) → interval count ≡ saturated full → interval result ≡ saturated (spec.chosen_count (some_condition condition.now) full) }
 {
-    let count = count_at(scope, place);
-    match condition {
-        None => count,
-        Some(_) => count.or_none(),
-    }
-}
-
-// The same, of once where no place is said.
-fn chosen_if(
-    scope: &[ScopeNode<'_, '_>],
-    place: &Option<ScopePath>,
-    condition: &Option<FieldCondition>,
-) -> Interval
-    ensures { interval result ≡ saturated (spec.chosen_count (some_condition condition.now) (places.count_if (walked scope.now) (option_map seen_place place.now))) }
-{
-    let count = count_if(scope, place);
     match condition {
         None => count,
         Some(_) => count.or_none(),
@@ -50,12 +30,12 @@ fn item_count(
     ensures { IfOk result (λ c. CountsOne (walked scope.now) item.now c) }
 {
     match item {
-        Item::Segment(segment) => Ok(chosen_if(scope, &segment.place, &segment.condition)),
-        Item::Group(group) => Ok(chosen_at(scope, &group.place, &group.condition)),
+        Item::Segment(segment) => Ok(chosen(&segment.condition, count_if(scope, &segment.place))),
+        Item::Group(group) => Ok(chosen(&group.condition, count_at(scope, &group.place))),
         Item::Flat(flat) => {
             let inner = enter(alloc, scope, &flat.place)?;
             let each = items_count(alloc, &inner, &flat.items)?;
-            Ok(chosen_at(scope, &flat.place, &flat.condition).times(each))
+            Ok(chosen(&flat.condition, count_at(scope, &flat.place)).times(each))
         }
     }
 }

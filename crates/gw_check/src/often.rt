@@ -1,5 +1,5 @@
 //! The rules on how often a field, a segment or a group comes.
-ghost use Rattle.std.specs.Prelude.{◌≡◌, ◌&&◌, not, OnOk};
+ghost use Rattle.std.specs.Prelude.{◌≡◌, ◌&&◌, OnOk};
 ghost use Rattle.gw_validate.specs.Breaches.{is_forbidden};
 ghost use Rattle.gw_check.specs.Fields.{is_expected};
 ghost use Rattle.gw_check.specs.own.Seen as seen;
@@ -25,10 +25,7 @@ pub(crate) struct Asked {
 fn is_expected(usage: Usage) -> bool
     ensures { result ≡ is_expected usage }
 {
-    match usage {
-        Usage::RE => true,
-        _ => false,
-    }
+    matches!(usage, Usage::RE)
 }
 
 fn check_capped(

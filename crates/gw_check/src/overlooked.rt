@@ -19,10 +19,7 @@ use std::alloc::{AllocError, Global};
 fn may_hold(usage: Usage) -> bool
     ensures { result ≡ spec.may_hold usage }
 {
-    match usage {
-        Usage::R | Usage::RE => true,
-        Usage::O | Usage::X => false,
-    }
+    matches!(usage, Usage::R | Usage::RE)
 }
 
 // Whether the field may hold something that is required, and nothing accounts for it.
@@ -87,10 +84,7 @@ fn add_segment(
 ) -> Result<(), AllocError>
     ensures { OnOk result (Adds found.old.items found.new.items (segment_missed known.now at.now (segment_value segment.now))) }
 {
-    if known.has_element(at) {
-        return Ok(());
-    }
-    if is_forbidden(segment.usage) {
+    if known.has_element(at) || is_forbidden(segment.usage) {
         return Ok(());
     }
     add_fields(alloc, known, at, &segment.fields, found)

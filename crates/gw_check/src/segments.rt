@@ -59,8 +59,7 @@ pub(crate) fn add_read(
         (λ tables. made line target.entry (spec.read (spec.spot_at (positions scope.now) (seen_place place.now) field 0 0))) }
 {
     let from = path_at(alloc, scope, place, field, LeafPlace { comp: 0, sub: 0 })?;
-    add_site(alloc, sites, line, target, Origin::Read(from))?;
-    Ok(())
+    add_site(alloc, sites, line, target, Origin::Read(from))
 }
 
 fn add_other(
@@ -75,8 +74,7 @@ fn add_other(
         (λ tables. other_made (positions scope.now) (some_reference walked.entry) place.entry (alternative tables other.now)) }
 {
     let origin = leaf_origin(alloc, scope, walked, &other.leaf)?;
-    add_site(alloc, sites, other.line, place, origin)?;
-    Ok(())
+    add_site(alloc, sites, other.line, place, origin)
 }
 
 fn add_others(
@@ -147,8 +145,7 @@ fn add_repeated(
 {
     let whole = LeafPlace { comp: 0, sub: 0 };
     let from = path_at(alloc, scope, &from.place, from.field, whole)?;
-    add_site(alloc, sites, line, target, Origin::Repeated(from))?;
-    Ok(())
+    add_site(alloc, sites, line, target, Origin::Repeated(from))
 }
 
 fn add_rule(
@@ -168,18 +165,15 @@ fn add_rule(
     };
     match &rule.making {
         Making::Copy(from) | Making::First(from, _) => {
-            add_read(alloc, sites, scope, line, field, &from.place, from.field)?;
-            Ok(())
+            add_read(alloc, sites, scope, line, field, &from.place, from.field)
         }
         Making::Repeat(from, _, leaves) => {
             add_leaves(alloc, sites, scope, Some(from), field, leaves)?;
-            add_repeated(alloc, sites, scope, line, field, from)?;
-            Ok(())
+            add_repeated(alloc, sites, scope, line, field, from)
         }
         Making::Build(leaves) => {
             add_leaves(alloc, sites, scope, None, field, leaves)?;
-            add_site(alloc, sites, line, field, Origin::Unsaid)?;
-            Ok(())
+            add_site(alloc, sites, line, field, Origin::Unsaid)
         }
     }
 }

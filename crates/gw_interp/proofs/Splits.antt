@@ -1,6 +1,6 @@
 -- The items of one node, and those of later nodes.
 use Rattle.std.proofs.Common.{◌≡◌, ℕ, suc, ◌≤◌, inl, inr, Bool, true, false, ◌&&◌, ◌==◌, List, [], ◌∷◌, ◌++◌, Option, Some, None, refl, sym, ap, ◌∙◌, subst, arith, true≢false}
-use Rattle.std.specs.Prelude.{if◌then◌else◌, nat_le}
+use Rattle.std.specs.Prelude.{if◌then◌else◌, nat_le, unwrap_or}
 use Rattle.std.proofs.lemmas.Bool.Decides.{eqb_tells, leb_tells}
 use Rattle.std.proofs.lemmas.List.{append_assoc}
 use Rattle.gw_er7.specs.Message.{SegmentValue}
@@ -9,7 +9,7 @@ use Rattle.gw_validate.specs.Cuts.{Cut}
 use Rattle.gw_resolve.specs.Places.{Element, child, nodes_of_child}
 use Rattle.gw_resolve.specs.Resolved.{Rule, Items, no_items, segment_item, group_item, flat_item, first_child}
 use Rattle.gw_check.specs.Levels.{is_of, its, beyond, items_failures}
-use Rattle.gw_resolve.specs.Order.{is_segment, is_group, follows, number_or, all_for, are_placed}
+use Rattle.gw_resolve.specs.Order.{is_segment, is_group, follows, all_for, are_placed}
 use Rattle.gw_resolve.specs.Lawful.{LawfulItems}
 use Rattle.gw_interp.specs.Occurrences.{Occurrence}
 use Rattle.gw_interp.specs.Meaning.{Walked, GiveBy}
@@ -176,7 +176,7 @@ placed_its nodes j (group_item g items rest) h =
     go e f i r = rw (e, f, i, r) refl
 placed_its nodes j (flat_item f items rest) h = go (placed_its nodes j rest) (first_child items) h
   where
-    go : (are_placed nodes j rest ≡ true → all_for nodes j (its j rest) ≡ true) → (c : Option ℕ) → (follows c j && all_for nodes (number_or j c) items && are_placed nodes (number_or j c) rest) ≡ true → all_for nodes j (if is_of j c then flat_item f items (its j rest) else no_items) ≡ true
+    go : (are_placed nodes j rest ≡ true → all_for nodes j (its j rest) ≡ true) → (c : Option ℕ) → (follows c j && all_for nodes (unwrap_or c j) items && are_placed nodes (unwrap_or c j) rest) ≡ true → all_for nodes j (if is_of j c then flat_item f items (its j rest) else no_items) ≡ true
     go more None p = absurd (cc)
     go more (Some k) p =
         let t = three_true (nat_le j k) (all_for nodes k items) (are_placed nodes k rest) p in
@@ -210,7 +210,7 @@ placed_beyond nodes j (group_item g items rest) h =
     ]
 placed_beyond nodes j (flat_item f items rest) h = go (placed_beyond nodes j rest) (first_child items) refl h
   where
-    go : (are_placed nodes j rest ≡ true → are_placed nodes (suc j) (beyond j rest) ≡ true) → (c : Option ℕ) → first_child items ≡ c → (follows c j && all_for nodes (number_or j c) items && are_placed nodes (number_or j c) rest) ≡ true → are_placed nodes (suc j) (if is_of j c then beyond j rest else flat_item f items rest) ≡ true
+    go : (are_placed nodes j rest ≡ true → are_placed nodes (suc j) (beyond j rest) ≡ true) → (c : Option ℕ) → first_child items ≡ c → (follows c j && all_for nodes (unwrap_or c j) items && are_placed nodes (unwrap_or c j) rest) ≡ true → are_placed nodes (suc j) (if is_of j c then beyond j rest else flat_item f items rest) ≡ true
     go more None e p = absurd (cc)
     go more (Some k) e p =
         let t = three_true (nat_le j k) (all_for nodes k items) (are_placed nodes k rest) p in

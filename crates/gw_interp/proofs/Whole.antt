@@ -1,6 +1,6 @@
 -- Where no rule fails, what a map gives conforms to the target.
 use Rattle.std.proofs.Common.{inl, inr, ◌≡◌, ℕ, suc, ◌+◌, ◌-◌, ◌≤◌, Bool, true, false, ◌&&◌, ◌==◌, not, List, [], ◌++◌, Option, Some, None, refl, sym, ap, ◌∙◌, subst, arith, true≢false}
-use Rattle.std.specs.Prelude.{nat_le, nat_lt}
+use Rattle.std.specs.Prelude.{nat_le, nat_lt, unwrap_or}
 use Rattle.std.proofs.lemmas.Bool.Decides.{leb_tells}
 use Rattle.gw_er7.specs.Message.{SegmentValue}
 use Rattle.gw_profile.specs.declared.shape.Usage.{Usage}
@@ -18,7 +18,7 @@ use Rattle.gw_resolve.specs.Resolved.{Rule, Items, no_items, segment_item, group
 use Rattle.gw_resolve.specs.Failures.{Mark, fails}
 use Rattle.gw_check.specs.Fields.{counted, is_expected}
 use Rattle.gw_check.specs.Levels.{its, beyond, node_mark, has_no_item, node_failures, level_failures, items_failures, items_count}
-use Rattle.gw_resolve.specs.Order.{is_segment, is_group, follows, number_or, all_for, are_placed}
+use Rattle.gw_resolve.specs.Order.{is_segment, is_group, follows, all_for, are_placed}
 use Rattle.gw_resolve.specs.Lawful.{LawfulItems}
 use Rattle.gw_interp.specs.Occurrences.{Occurrence}
 use Rattle.gw_interp.specs.Meaning.{Walked, GiveBy}
@@ -108,7 +108,7 @@ none_left nodes j (group_item g items rest) none h =
     absurd (true≢false (sym t.1 ∙ ap is_group (reached nodes j g.child none (from_nat_le j g.child t.0))))
 none_left nodes j (flat_item f items rest) none h = go (first_child items) refl h
   where
-    go : (c : Option ℕ) → first_child items ≡ c → (follows c j && all_for nodes (number_or j c) items && are_placed nodes (number_or j c) rest) ≡ true → flat_item f items rest ≡ no_items
+    go : (c : Option ℕ) → first_child items ≡ c → (follows c j && all_for nodes (unwrap_or c j) items && are_placed nodes (unwrap_or c j) rest) ≡ true → flat_item f items rest ≡ no_items
     go None e p = absurd (cc)
     go (Some k) e p =
         let t = three_true (nat_le j k) (all_for nodes k items) (are_placed nodes k rest) p in

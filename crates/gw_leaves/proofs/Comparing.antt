@@ -5,7 +5,7 @@ use Rattle.std.specs.List.{list_any}
 use Rattle.std.specs.Map.{lookup}
 use Rattle.std.specs.Global.{Vec}
 use Rattle.std.specs.Option.{option_eq}
-use Rattle.std.proofs.Math.Bool.{and-true, or-false}
+use Rattle.std.proofs.Math.Bool.{and-true, and-false, or-false}
 use Rattle.std.proofs.lemmas.Bool.{eqb-true}
 use Rattle.std.proofs.lemmas.Bool.Decides.{nat_tests}
 use Rattle.std.proofs.lemmas.List.Folds.{list_any-append, list_any_more}
@@ -26,7 +26,7 @@ use Rattle.gw_leaves.specs.declared.given.LeafSource.{LeafSource}
 use Rattle.gw_leaves.specs.Components.{table_values}
 use Rattle.gw_leaves.specs.Context.{ContextValue}
 use Rattle.gw_leaves.specs.Leaves.{listed, is_short, given, sub_values, has_no_row, may_be_unlisted, may_be_long}
-use Rattle.gw_leaves.specs.Texts.{is_there, items_all}
+use Rattle.gw_leaves.specs.Texts.{items_all}
 use Rattle.gw_leaves.specs.own.Held.{given_texts}
 use Rattle.gw_leaves.specs.own.Comparisons.{table_texts, values_named, rows_named, rowed, table_of, len_of, some_unrowed, is_unrowed, Origin, is_any, texts_in, given_at, given_by, fits, exceeds, is_outside, is_outside_named, holds_of, Lengths, size_of, some_length, Adds, AreOfValues, AreOfRows, some_values, AreCompared, Comparison, names_eq, comparisons_eq, IsCompared, AreKept}
 use Rattle.gw_leaves.proofs.Inserted.{any_map, inserted}
@@ -38,18 +38,13 @@ over_items test texts all e = sym (any_map (λ (v : Vec ℕ). v.items) test text
 -- ---- lengths
 
 module _ (to : Count) (values : List (List ℕ)) where
-  nothing_more : (a b : Bool) → a ≡ (a || (b && false))
-  nothing_more true b = refl
-  nothing_more false true = refl
-  nothing_more false false = refl
-
   outside : (most : Option ℕ) (text : List ℕ) (b : Bool) → not (is_among text values) ≡ b → is_outside to values most text ≡ (b && exceeds most (measure to text))
   outside None text b e = e ∙ sym (and-true b)
   outside (Some most) text b e = ap (λ c. c && nat_lt most (measure to text)) e
 
   pub listed_added : (lengths : Lengths) (size : ℕ) (text : List ℕ) → is_among text values ≡ true → Adds to values lengths lengths size (Some text)
   listed_added lengths size text e len most =
-      nothing_more (some_length len most lengths) (fits len size)
+      sym (ap (λ b. some_length len most lengths || b) (and-false (fits len size)) ∙ or-false (some_length len most lengths))
       ∙ ap (λ b. some_length len most lengths || (fits len size && b)) (sym (outside most text false (ap not e)))
 
   pub one_added : (old new : Lengths) (size : ℕ) (text : List ℕ) → is_among text values ≡ false → new ≡ insert_key (λ (a b : ℕ × ℕ). a.0 == b.0 && a.1 == b.1) old (size, measure to text) → Adds to values old new size (Some text)
@@ -260,27 +255,17 @@ module _ (s : ContextValue) where
 
 -- ---- texts without a row
 
-no_row_is : (table : maps.Rows) (texts : List (List ℕ)) → has_no_row table (listed texts) ≡ list_any (λ text. not (is_there (maps.second_of text table.rows))) texts
-no_row_is table [] = refl
-no_row_is table (x ∷ xs) = with (maps.second_of x table.rows) refl (no_row_is table xs)
-  where
-    with : (o : Option (List ℕ)) → maps.second_of x table.rows ≡ o → has_no_row table (listed xs) ≡ list_any (λ text. not (is_there (maps.second_of text table.rows))) xs
-        → has_no_row table (listed (x ∷ xs)) ≡ list_any (λ text. not (is_there (maps.second_of text table.rows))) (x ∷ xs)
-    with None e more = rw e refl
-    with (Some t) e more = rw e more
-
 module _ (profile : ProfileValue) (rows : maps.Rows) (sub : Option SubValue) where
-  pub any_unrowed : table_of sub ≡ None → is_there rows.other ≡ false → true ≡ is_unrowed rows (sub_values profile sub)
+  pub any_unrowed : table_of sub ≡ None → is_some rows.other ≡ false → true ≡ is_unrowed rows (sub_values profile sub)
   any_unrowed e other =
-      ap not (sym other) ∙ sym (and-true (not (is_there rows.other)))
-      ∙ ap (λ v. not (is_there rows.other) && has_no_row rows v) (sym (sub_texts profile sub ∙ ap (λ t. table_texts profile t (len_of sub)) e))
+      ap not (sym other) ∙ sym (and-true (not (is_some rows.other)))
+      ∙ ap (λ v. not (is_some rows.other) && has_no_row rows v) (sym (sub_texts profile sub ∙ ap (λ t. table_texts profile t (len_of sub)) e))
 
-  pub listed_unrowed : (table : List ℕ) (len : Option ℕ) (texts : List (Vec ℕ)) → table_of sub ≡ Some table → len ≡ len_of sub → is_there rows.other ≡ false → items_all texts ≡ values_named profile.tables (Some table)
+  pub listed_unrowed : (table : List ℕ) (len : Option ℕ) (texts : List (Vec ℕ)) → table_of sub ≡ Some table → len ≡ len_of sub → is_some rows.other ≡ false → items_all texts ≡ values_named profile.tables (Some table)
       → some_unrowed (len_count profile) len rows texts ≡ is_unrowed rows (sub_values profile sub)
   listed_unrowed table len texts e short other is =
       let all = values_named profile.tables (Some table) in
-      over_items (λ t. fits len (measure (len_count profile) t) && not (is_there (maps.second_of t rows.rows))) texts all is
-      ∙ short_any (λ t. not (is_there (maps.second_of t rows.rows))) (len_count profile) len all
-      ∙ sym (no_row_is rows (filter (is_short (len_count profile) len) all))
+      over_items (λ t. fits len (measure (len_count profile) t) && not (is_some (maps.second_of t rows.rows))) texts all is
+      ∙ short_any (λ t. not (is_some (maps.second_of t rows.rows))) (len_count profile) len all
       ∙ ap (λ v. has_no_row rows v) (ap (table_texts profile (Some table)) short ∙ sym (sub_texts profile sub ∙ ap (λ t. table_texts profile t (len_of sub)) e))
       ∙ ap (λ b. not b && has_no_row rows (sub_values profile sub)) (sym other)

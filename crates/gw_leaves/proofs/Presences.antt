@@ -2,7 +2,7 @@
 use Rattle.std.proofs.Common.{◌≡◌, ℕ, ◌≤◌, ◌⊎◌, inl, inr, Bool, true, false, Option, Some, None, refl, ◌↔◌}
 use Rattle.std.specs.Prelude.{if◌then◌else◌, ◌&&◌, nat_le, option_map, IsSomeAnd}
 use Rattle.gw_profile.specs.declared.shape.Usage.{Usage}
-use Rattle.gw_profile.specs.declared.shape.Usage.TheVariants.{R, RE, O, X}
+use Rattle.gw_profile.specs.declared.shape.Usage.TheVariants.{R, X}
 use Rattle.gw_profile.specs.Shapes.{SubValue, CompValue, FieldValue}
 use Rattle.gw_profile.proofs.Facts.{le_is, le_test}
 use Rattle.gw_leaves.specs.declared.shape.Presence.{Presence}
@@ -17,15 +17,11 @@ use Rattle.gw_profile.specs.Numbered.{comp_of, sub_of}
 
 usage_always : (u : Usage) → (by_usage (Some u) ≡ Always) ↔ (u ≡ R)
 usage_always R = (λ e. refl, λ e. refl)
-usage_always RE = (λ e. absurd (cc), λ e. absurd (cc))
-usage_always O = (λ e. absurd (cc), λ e. absurd (cc))
-usage_always X = (λ e. absurd (cc), λ e. absurd (cc))
+usage_always u = (λ e. absurd (cc), λ e. absurd (cc))
 
 usage_never : (u : Usage) → (by_usage (Some u) ≡ Never) ↔ (u ≡ X)
-usage_never R = (λ e. absurd (cc), λ e. absurd (cc))
-usage_never RE = (λ e. absurd (cc), λ e. absurd (cc))
-usage_never O = (λ e. absurd (cc), λ e. absurd (cc))
 usage_never X = (λ e. refl, λ e. refl)
+usage_never u = (λ e. absurd (cc), λ e. absurd (cc))
 
 -- of something that may not be there
 module _ {A : Type 0} (usage : A → Usage) where
@@ -41,17 +37,14 @@ module _ {A : Type 0} (usage : A → Usage) where
 
 both_always : (a b : Presence) → (both a b ≡ Always) ↔ ((a ≡ Always) × (b ≡ Always))
 both_always Always b = (λ e. (refl, e), λ h. h.1)
-both_always Maybe Always = (λ e. absurd (cc), λ h. absurd (let e = h.0 in cc))
-both_always Maybe Maybe = (λ e. absurd (cc), λ h. absurd (let e = h.0 in cc))
 both_always Maybe Never = (λ e. absurd (cc), λ h. absurd (let e = h.0 in cc))
-both_always Never b = (λ e. absurd (cc), λ h. absurd (let e = h.0 in cc))
+both_always a b = (λ e. absurd (cc), λ h. absurd (let e = h.0 in cc))
 
 both_never : (a b : Presence) → (both a b ≡ Never) ↔ ((a ≡ Never) ⊎ (b ≡ Never))
 both_never Always b = (λ e. inr e, elim [ inl e ↦ absurd (cc) | inr e ↦ e ])
-both_never Maybe Always = (λ e. absurd (cc), elim [ inl e ↦ absurd (cc) | inr e ↦ absurd (cc) ])
-both_never Maybe Maybe = (λ e. absurd (cc), elim [ inl e ↦ absurd (cc) | inr e ↦ absurd (cc) ])
 both_never Maybe Never = (λ e. inr refl, λ h. refl)
 both_never Never b = (λ e. inl refl, λ h. refl)
+both_never Maybe b = (λ e. absurd (cc), elim [ inl e ↦ absurd (cc) | inr e ↦ absurd (cc) ])
 
 -- ---- a field
 

@@ -1,8 +1,8 @@
 -- What is known of the texts that a leaf gives: whether one is there, and which it can be (HL7 v2.5.1 chapter 2, 2.12: usage, length, table).
-use Rattle.std.specs.Prelude.{◌≡◌, ℕ, Bool, true, false, ◌&&◌, ◌||◌, not, nat_lt, nat_le, if◌then◌else◌, List, [], ◌∷◌, ◌++◌, map, filter, filter_map, Option, Some, None, option_map, option_to_list, unwrap_or}
+use Rattle.std.specs.Prelude.{◌≡◌, ℕ, Bool, true, false, ◌&&◌, ◌||◌, not, nat_lt, nat_le, if◌then◌else◌, List, [], ◌∷◌, ◌++◌, map, filter, filter_map, Option, Some, None, is_some, option_map, option_to_list, unwrap_or}
 use Rattle.std.specs.List.{list_any}
 use Rattle.gw_profile.specs.declared.shape.Usage.{Usage}
-use Rattle.gw_profile.specs.declared.shape.Usage.TheVariants.{R, RE, O, X}
+use Rattle.gw_profile.specs.declared.shape.Usage.TheVariants.{R, X}
 use Rattle.gw_profile.specs.Among.{Among}
 use Rattle.gw_profile.specs.Shapes.{SubValue, CompValue, FieldValue, ProfileValue}
 use Rattle.gw_profile.specs.declared.shape.Count.{Count}
@@ -22,29 +22,24 @@ use Rattle.gw_resolve.specs.Resolved.{Source, of_field, of_current, Reference, L
 
 -- required is there wherever its parent is, forbidden never
 abbrev pub by_usage : Option Usage → Presence
-by_usage None = Maybe
 by_usage (Some R) = Always
-by_usage (Some RE) = Maybe
-by_usage (Some O) = Maybe
 by_usage (Some X) = Never
+by_usage usage = Maybe
 
 abbrev pub is_always : Presence → Bool
 is_always Always = true
-is_always Maybe = false
-is_always Never = false
+is_always presence = false
 
 abbrev pub is_absent : Presence → Bool
-is_absent Always = false
-is_absent Maybe = false
 is_absent Never = true
+is_absent presence = false
 
 -- of something that is there only where two things are
 abbrev pub both : Presence → Presence → Presence
 both Never b = Never
 both Always b = b
-both Maybe Always = Maybe
-both Maybe Maybe = Maybe
 both Maybe Never = Never
+both Maybe b = Maybe
 
 abbrev pub comp_presence : Option CompValue → Presence
 comp_presence c = by_usage (option_map (λ (d : CompValue). d.usage) c)
@@ -110,11 +105,7 @@ given_values table (listed texts) = filter_map (given table) texts
 -- a text of the source has no row, as far as is known
 abbrev pub has_no_row : Rows → Values → Bool
 has_no_row table (any count len) = true
-has_no_row table (listed texts) = list_any (λ text. not (is_given (second_of text table.rows))) texts
-  where
-    is_given : Option (List ℕ) → Bool
-    is_given None = false
-    is_given (Some value) = true
+has_no_row table (listed texts) = list_any (λ text. not (is_some (second_of text table.rows))) texts
 
 -- ---- the shape of a leaf
 
@@ -142,9 +133,8 @@ source_shape s (of_current comp sub) =
 
 -- of a text that may be left out
 abbrev pub perhaps : Presence → Presence
-perhaps Always = Maybe
-perhaps Maybe = Maybe
 perhaps Never = Never
+perhaps presence = Maybe
 
 abbrev pub leaf_shape : Sources → Leaf → Shape
 leaf_shape s (const text) = record { presence = Always; values = listed (text ∷ []) }
@@ -157,10 +147,9 @@ leaf_shape s (dated digits source) =
 -- of the first of two texts that is there
 abbrev pub either : Presence → Presence → Presence
 either Always b = Always
-either Maybe Always = Always
-either Maybe Maybe = Maybe
-either Maybe Never = Maybe
 either Never b = b
+either Maybe Always = Always
+either Maybe b = Maybe
 
 -- of the first text that one of these leaves gives
 abbrev pub first_presence : Sources → List Alternative → Presence
@@ -182,9 +171,8 @@ may_be_unlisted (listed texts) (Some table) = list_any (λ text. not (is_among t
 -- A text that isn't longer than the length by one count may be longer than the most by the other.
 -- A text has no more characters than octets; its characters set no limit to its octets.
 abbrev pub may_exceed : Count → ℕ → Count → ℕ → Bool
-may_exceed Octets len to most = nat_lt most len
 may_exceed Characters len Octets most = true
-may_exceed Characters len Characters most = nat_lt most len
+may_exceed count len to most = nat_lt most len
 
 -- a value may be longer than the length, by the count of the target
 abbrev pub may_be_long : Count → Values → Option ℕ → Bool
@@ -193,13 +181,13 @@ may_be_long to (any count None) (Some most) = true
 may_be_long to (any count (Some len)) (Some most) = may_exceed count len to most
 may_be_long to (listed texts) (Some most) = list_any (λ text. nat_lt most (measure to text)) texts
 
+-- what the usage asks of a presence
+abbrev pub meets : Usage → Presence → Bool
+meets R p = is_always p
+meets X p = is_absent p
+meets usage p = true
+
 -- what stands there always meets the subcomponent, with these values of its table and the count of its profile
 abbrev pub is_included : Count → Shape → SubValue → Option (List (List ℕ)) → Bool
 is_included to shape s table =
-    meets_usage s.usage && (is_absent shape.presence || (not (may_be_unlisted shape.values table) && not (may_be_long to shape.values s.len)))
-  where
-    meets_usage : Usage → Bool
-    meets_usage R = is_always shape.presence
-    meets_usage RE = true
-    meets_usage O = true
-    meets_usage X = is_absent shape.presence
+    meets s.usage shape.presence && (is_absent shape.presence || (not (may_be_unlisted shape.values table) && not (may_be_long to shape.values s.len)))

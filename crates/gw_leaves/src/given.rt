@@ -1,12 +1,12 @@
 //! What is read at a place, and what a subcomponent of the target asks of it.
-ghost use Rattle.std.specs.Prelude.{◌≡◌, IfOk};
+ghost use Rattle.std.specs.Prelude.{is_some, ◌≡◌, IfOk};
 ghost use Rattle.gw_profile.specs.Numbered.{some_sub};
 ghost use Rattle.gw_profile.specs.Seen.{sub as sub_value};
 ghost use Rattle.gw_maplang.specs.Seen.{now};
 ghost use Rattle.gw_maplang.specs.Shapes.{second_of};
 ghost use Rattle.gw_leaves.specs.Components.{table_values};
 ghost use Rattle.gw_leaves.specs.Leaves as leaves;
-ghost use Rattle.gw_leaves.specs.Texts.{is_there, rows_value};
+ghost use Rattle.gw_leaves.specs.Texts.{rows_value};
 ghost use Rattle.gw_leaves.specs.own.Comparisons as spec;
 ghost use Rattle.gw_leaves.specs.own.Held.{given_texts, source_values};
 
@@ -117,7 +117,7 @@ fn some_unrowed(count: Count, len: Option<u32>, rows: Option<&Rows>, texts: &[Ve
 }
 
 fn has_row(rows: Option<&Rows>, text: &[u8]) -> bool
-    ensures { result ≡ is_there (second_of text.now (rows_value rows.entry).rows) }
+    ensures { result ≡ is_some (second_of text.now (rows_value rows.entry).rows) }
 {
     match rows {
         None => false,
@@ -126,7 +126,7 @@ fn has_row(rows: Option<&Rows>, text: &[u8]) -> bool
 }
 
 fn has_other(rows: Option<&Rows>) -> bool
-    ensures { result ≡ is_there (rows_value rows.entry).other }
+    ensures { result ≡ is_some (rows_value rows.entry).other }
 {
     match rows {
         None => false,

@@ -7,7 +7,7 @@ ghost use Rattle.gw_leaves.specs.Leaves as spec;
 ghost use Rattle.gw_profile.specs.Numbered.{some_sub};
 ghost use Rattle.gw_leaves.specs.Uses.{sources_value};
 ghost use Rattle.gw_resolve.specs.Seen.{source as seen_source};
-ghost use Rattle.gw_leaves.specs.Texts.{shape_value, some_items, meets};
+ghost use Rattle.gw_leaves.specs.Texts.{shape_value, some_items};
 
 use crate::known::at_field;
 use crate::presence::{is_absent, is_always};
@@ -44,7 +44,7 @@ pub(crate) fn source_sub<'e>(
 // ---- what a subcomponent asks
 
 fn meets_usage(usage: Usage, presence: Presence) -> bool
-    ensures { result ≡ meets usage presence }
+    ensures { result ≡ spec.meets usage presence }
 {
     match usage {
         Usage::R => is_always(presence),

@@ -6,7 +6,7 @@ use Rattle.std.specs.Option.{option_map, option_to_list}
 use Rattle.std.proofs.lemmas.List.{append-nil, map-append, length-map}
 use Rattle.gw_plan.specs.declared.index.Index.{Index}
 use Rattle.gw_check.specs.Kept.{CheckedValue}
-use Rattle.gw_check.proofs.Collecting.{on_ok}
+use Rattle.std.proofs.lemmas.Result.{on_ok_weaker}
 use Rattle.gw_plan.specs.Held.{RouteHeld, route_value, longer}
 use Rattle.gw_plan.specs.Senders.{Senders, says, again}
 use Rattle.gw_plan.specs.Draft.{takes_rest, takes_word, is_taken}
@@ -43,14 +43,14 @@ keys_more routes r = map-append key_of routes (r ∷ [])
 
 module _ {A E : Type 0} (number : ℕ) (by : CheckedValue) (current : Option RouteHeld) (route new : RouteHeld) (result : Result A E) (is : current ≡ Some route) where
   pub one_longer : OnOk result (new ≡ longer number by route) → OnOk result (Some new ≡ option_map (longer number by) current)
-  one_longer e = on_ok result _ _ (λ same. ap Some same ∙ sym (ap (option_map (longer number by)) is)) e
+  one_longer e = on_ok_weaker result (λ same. ap Some same ∙ sym (ap (option_map (longer number by)) is)) e
 
   pub still_listed : (index : Index) (closed : List RouteHeld) → Indexes index (map key_of (closed ++ option_to_list current)) → OnOk result (new ≡ longer number by route)
       → OnOk result (Indexes index (map key_of (closed ++ new ∷ [])))
   still_listed index closed listed e =
       let before = subst (λ o. Indexes index (map key_of (closed ++ option_to_list o))) is listed in
       let keys : map key_of (closed ++ route ∷ []) ≡ map key_of (closed ++ longer number by route ∷ []) = keys_more closed route ∙ sym (keys_more closed (longer number by route)) in
-      on_ok result _ _ (λ same. subst (λ (r : RouteHeld). Indexes index (map key_of (closed ++ r ∷ []))) (sym same) (subst (Indexes index) keys before)) e
+      on_ok_weaker result (λ same. subst (λ (r : RouteHeld). Indexes index (map key_of (closed ++ r ∷ []))) (sym same) (subst (Indexes index) keys before)) e
 
 -- the same with a key that is claimed
 pub claimed_closed : (index : Index) (closed : List RouteHeld) (current : Option RouteHeld) (key : Key) → current ≡ None → Indexes index (with_key key (map key_of (closed ++ option_to_list current))) → Indexes index (with_key key (map key_of closed))

@@ -5,7 +5,7 @@ use Rattle.std.specs.List.{list_all}
 use Rattle.std.proofs.lemmas.List.{append-nil}
 use Rattle.std.proofs.lemmas.List.Folds.{list_all-append}
 use Rattle.gw_maplang.specs.declared.item.FlatItem.{FlatItem}
-use Rattle.gw_maplang.specs.declared.item.Item.{Item, SegFrom, SegAlways, EachFlat, EachAs', EachFlat'}
+use Rattle.gw_maplang.specs.declared.item.Item.{Item, EachFlat, EachFlat'}
 use Rattle.gw_maplang.specs.Shapes.{Items, nothing}
 use Rattle.gw_maplang.specs.Seen.{now, with_item, row_items, all_items}
 use Rattle.gw_maplang.proofs.Rows.{flat_items}
@@ -13,10 +13,8 @@ use Rattle.gw_resolve.specs.Naming.{labels}
 use Rattle.gw_resolve.proofs.Noting.{front}
 
 pub item_labels : (x : Item) (rest : Items) → labels (with_item x rest) ≡ labels (with_item x nothing) ++ labels rest
-item_labels (SegFrom s) rest = refl
-item_labels (SegAlways s) rest = refl
-item_labels (EachAs' line label from shape row) rest = refl
 item_labels (EachFlat' line from shape row) rest = ap (λ l. l ++ labels rest) (sym (append-nil (labels (row_items row))))
+item_labels x rest = refl
 
 pub flat_labels : (item : Item) (f : FlatItem) (items : List Item) → item ≡ EachFlat f → items ≡ f.items.items → labels (all_items items) ≡ labels (with_item item nothing)
 flat_labels item f items is e =

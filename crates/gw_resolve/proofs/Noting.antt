@@ -6,9 +6,9 @@ use Rattle.std.proofs.lemmas.Bool.{eqb-true}
 use Rattle.std.specs.Global.{Vec}
 use Rattle.gw_maplang.specs.declared.item.FromItem.{FromItem}
 use Rattle.gw_maplang.specs.declared.rule.Rule.{Rule}
-use Rattle.gw_maplang.specs.declared.item.Item.{Item, SegFrom, SegAlways, EachAs', EachFlat'}
+use Rattle.gw_maplang.specs.declared.item.Item.{Item, SegFrom}
 use Rattle.gw_maplang.specs.Shapes.{FieldCondition, Items, nothing}
-use Rattle.gw_maplang.specs.Seen.{path, walk, field_condition_some, items_all, with_item, row_items, all_items, rule}
+use Rattle.gw_maplang.specs.Seen.{path, walk, field_condition_some, items_all, with_item, all_items, rule}
 use Rattle.gw_resolve.specs.Places.{Element, within}
 use Rattle.gw_resolve.specs.Failures.{Failure, where_so, or_later}
 use Rattle.gw_resolve.specs.declared.failure.Failure as declared
@@ -40,19 +40,10 @@ all_but_last xs h = before_last (length xs - 1) xs (omega (arith, h))
 
 -- ---- items
 
-pub joined : (a c : List Failure) → a ++ c ≡ a ++ [] ++ c
-joined a c = ap (λ l. l ++ c) (sym (append-nil a))
-
 -- an item, and those behind it
 pub one_item : (scope : List Element) (x : Item) (rest : Items) → path_failures scope (with_item x rest) ≡ path_failures scope (with_item x nothing) ++ path_failures scope rest
-one_item scope (SegFrom s) rest =
-    joined
-    (source_failures scope s.line (Some (walk s.walk))
-    ++ where_so (source_leads scope (Some (walk s.walk))) (inner_failures (walked_if scope (Some (walk s.walk))) s.line (field_condition_some s.walk.condition) (map rule s.rules.items)))
-    (path_failures scope rest)
-one_item scope (SegAlways s) rest = joined (flat_map (rule_failures scope) (map rule s.rules.items)) (path_failures scope rest)
-one_item scope (EachAs' line label from shape row) rest = joined (each_within scope line (walk from) (row_items row)) (path_failures scope rest)
-one_item scope (EachFlat' line from shape row) rest = joined (each_within scope line (walk from) (row_items row)) (path_failures scope rest)
+one_item scope (SegFrom s) rest = search (append_assoc)
+one_item scope x rest = search (append_assoc)
 
 pub items_next : (scope : List Element) (xs : List Item) (i : ℕ) (x : Item) (old new : List Failure) → i < length xs → x ≡ get_or xs i x → new ≡ old ++ path_failures scope (with_item x nothing) → old ++ path_failures scope (all_items (drop i xs)) ≡ new ++ path_failures scope (all_items (drop (i + 1) xs))
 items_next scope xs i x old new m e made =

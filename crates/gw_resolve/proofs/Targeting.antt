@@ -1,11 +1,11 @@
 -- The failures of target labels, one item after the other.
 use Rattle.std.proofs.Common.{◌≡◌, ℕ, ◌+◌, ◌<◌, List, [], ◌++◌, drop, get_or, length, Option, Some, None, refl, sym, ap, ◌∙◌}
 use Rattle.std.specs.Prelude.{not, nat_lt, unwrap_or, option_and_then}
-use Rattle.std.proofs.lemmas.List.{append-nil}
+use Rattle.std.proofs.lemmas.List.{append-nil, append_assoc}
 use Rattle.gw_profile.specs.Shapes.{Forest}
 use Rattle.gw_maplang.specs.declared.item.GroupItem.{GroupItem}
 use Rattle.gw_maplang.specs.declared.item.FlatItem.{FlatItem}
-use Rattle.gw_maplang.specs.declared.item.Item.{Item, SegFrom, SegAlways, EachAs, EachFlat, EachAs', EachFlat'}
+use Rattle.gw_maplang.specs.declared.item.Item.{Item, EachAs, EachFlat, EachFlat'}
 use Rattle.gw_maplang.specs.Shapes.{Items, nothing}
 use Rattle.gw_maplang.specs.Seen.{with_item, row_items, all_items}
 use Rattle.gw_maplang.proofs.Rows.{group_items, flat_items}
@@ -15,19 +15,16 @@ use Rattle.gw_resolve.specs.Places.{child, nodes_of_child}
 use Rattle.gw_profile.specs.Labels.{labelled}
 use Rattle.gw_resolve.specs.Naming.{labels, first_or, node_or, label_failures, flat_failures, target_failures}
 use Rattle.gw_resolve.specs.Outcome.{reached}
-use Rattle.gw_resolve.proofs.Noting.{front, joined, added_one}
+use Rattle.gw_resolve.proofs.Noting.{front, added_one}
 use Rattle.gw_resolve.proofs.Labels.{flat_labels}
 
 one_target : (nodes : Forest) (j : ℕ) (x : Item) (rest : Items) → target_failures nodes j (with_item x rest) ≡ target_failures nodes j (with_item x nothing) ++ target_failures nodes (reached nodes j x) rest
-one_target nodes j (SegFrom s) rest = joined (label_failures nodes is_segment j s.line s.label.items) (target_failures nodes (node_or j nodes s.label.items) rest)
-one_target nodes j (SegAlways s) rest = joined (label_failures nodes is_segment j s.line s.label.items) (target_failures nodes (node_or j nodes s.label.items) rest)
-one_target nodes j (EachAs' line label from shape row) rest =
-    joined (or_later (label_failures nodes is_group j line label.items) (target_failures (nodes_of_child nodes (node_or j nodes label.items)) 0 (row_items row))) (target_failures nodes (node_or j nodes label.items) rest)
 one_target nodes j (EachFlat' line from shape row) rest =
     let first = first_or (labels (row_items row)) in
     let here = or_later (flat_failures nodes j line (labels (row_items row))) (target_failures nodes 0 (row_items row)) in
-    joined here (target_failures nodes (node_or j nodes first) rest)
+    sym (append_assoc here [] (target_failures nodes (node_or j nodes first) rest))
     ∙ ap (λ l. (here ++ []) ++ target_failures nodes (node_or j nodes (first_or l)) rest) (sym (append-nil (labels (row_items row))))
+one_target nodes j x rest = search (append_assoc)
 
 pub targets_next : (nodes : Forest) (xs : List Item) (i : ℕ) (x : Item) (old new : List Failure) (j k : ℕ) → i < length xs → x ≡ get_or xs i x → new ≡ old ++ target_failures nodes j (with_item x nothing) → k ≡ reached nodes j x → old ++ target_failures nodes j (all_items (drop i xs)) ≡ new ++ target_failures nodes k (all_items (drop (i + 1) xs))
 targets_next nodes xs i x old new j k m e made at =

@@ -21,9 +21,8 @@ of_card card = record { least = card.min; greatest = card.max }
 -- ---- sums and products, end by end; 0 times anything is 0
 
 abbrev pub add : Option ℕ → Option ℕ → Option ℕ
-add None b = None
-add (Some a) None = None
 add (Some a) (Some b) = Some (a + b)
+add a b = None
 
 abbrev pub multiply : Option ℕ → Option ℕ → Option ℕ
 multiply None None = None

@@ -1,28 +1,20 @@
 -- The rule on the order of items (3): each gives a segment or a group of the target's level, in the order of the target's nodes.
-use Rattle.std.specs.Prelude.{ℕ, Bool, true, false, ◌==◌, ◌&&◌, nat_le, Option, Some, None}
+use Rattle.std.specs.Prelude.{ℕ, Bool, true, false, ◌==◌, ◌&&◌, nat_le, Option, Some, None, unwrap_or}
 use Rattle.gw_profile.specs.Shapes.{Forest}
-use Rattle.gw_resolve.specs.Places.{Element, a_segment, a_group, the_whole, child, nodes_of_child}
+use Rattle.gw_resolve.specs.Places.{Element, a_segment, a_group, child, nodes_of_child}
 use Rattle.gw_resolve.specs.Resolved.{Items, no_items, segment_item, group_item, flat_item, first_child}
 
 abbrev pub is_segment : Option Element → Bool
-is_segment None = false
 is_segment (Some (a_segment s)) = true
-is_segment (Some (a_group g nodes)) = false
-is_segment (Some (the_whole nodes)) = false
+is_segment element = false
 
 abbrev pub is_group : Option Element → Bool
-is_group None = false
-is_group (Some (a_segment s)) = false
 is_group (Some (a_group g nodes)) = true
-is_group (Some (the_whole nodes)) = false
+is_group element = false
 
 abbrev pub follows : Option ℕ → ℕ → Bool
 follows None j = false
 follows (Some k) j = nat_le j k
-
-abbrev pub number_or : ℕ → Option ℕ → ℕ
-number_or j None = j
-number_or j (Some k) = k
 
 abbrev mutual
   -- items for node j of these, as a flat has them
@@ -39,4 +31,4 @@ abbrev mutual
   are_placed nodes j (group_item g items rest) =
       nat_le j g.child && is_group (child nodes g.child) && are_placed (nodes_of_child nodes g.child) 0 items && are_placed nodes g.child rest
   are_placed nodes j (flat_item f items rest) =
-      follows (first_child items) j && all_for nodes (number_or j (first_child items)) items && are_placed nodes (number_or j (first_child items)) rest
+      follows (first_child items) j && all_for nodes (unwrap_or (first_child items) j) items && are_placed nodes (unwrap_or (first_child items) j) rest

@@ -31,17 +31,13 @@ nodes_of_child nodes i = go (child nodes i)
     go (Some e) = nodes_of e
 
 abbrev pub fields_of : Option Element → List FieldValue
-fields_of None = []
 fields_of (Some (a_segment s)) = s.fields
-fields_of (Some (a_group g nodes)) = []
-fields_of (Some (the_whole nodes)) = []
+fields_of element = []
 
 -- the name of a segment
 abbrev pub name_of : Option Element → List ℕ
-name_of None = []
 name_of (Some (a_segment s)) = s.name
-name_of (Some (a_group g nodes)) = []
-name_of (Some (the_whole nodes)) = []
+name_of element = []
 
 -- ---- places
 
@@ -119,8 +115,7 @@ known_of (Some f) = go f.element
   where
     go : Element → Known
     go (a_segment s) = record { count = f.count; fields = s.fields }
-    go (a_group g nodes) = record { count = never; fields = [] }
-    go (the_whole nodes) = record { count = never; fields = [] }
+    go element = record { count = never; fields = [] }
 
 abbrev pub known : List Element → Place → Known
 known scope place = known_of (found scope place)

@@ -1,5 +1,5 @@
 -- Texts of the source against tables of the target, whatever the length at which a place reads them.
-use Rattle.std.specs.Prelude.{◌≡◌, ℕ, Bool, true, false, ◌&&◌, ◌||◌, not, nat_lt, nat_le, List, [], filter, Option, Some, None, option_copied, option_and_then, unwrap_or, bytes_eq}
+use Rattle.std.specs.Prelude.{◌≡◌, ℕ, Bool, true, false, ◌&&◌, ◌||◌, not, nat_lt, nat_le, List, [], filter, Option, Some, None, is_some, option_copied, option_and_then, unwrap_or, bytes_eq}
 use Rattle.std.specs.List.{list_any}
 use Rattle.std.specs.Map.{lookup}
 use Rattle.std.specs.Option.{option_eq}
@@ -16,7 +16,6 @@ use Rattle.gw_maplang.specs.Seen.{now}
 use Rattle.gw_maplang.specs.Shapes as maps
 use Rattle.gw_resolve.specs.Naming.{no_rows}
 use Rattle.gw_leaves.specs.Leaves.{Values, any, listed, is_short, given, given_values, has_no_row}
-use Rattle.gw_leaves.specs.Texts.{is_there}
 use Rattle.gw_leaves.specs.Context.{ContextValue}
 
 -- ---- what is read at a place
@@ -52,11 +51,11 @@ fits (Some most) n = nat_le n most
 
 -- a text may have no row, and nothing stands for it
 abbrev pub is_unrowed : maps.Rows → Values → Bool
-is_unrowed rows values = not (is_there rows.other) && has_no_row rows values
+is_unrowed rows values = not (is_some rows.other) && has_no_row rows values
 
 -- one of these texts that isn't longer has no row
 abbrev pub some_unrowed : Count → Option ℕ → maps.Rows → List (Vec ℕ) → Bool
-some_unrowed count len rows texts = list_any (λ v. fits len (measure count v.items) && not (is_there (maps.second_of v.items rows.rows))) texts
+some_unrowed count len rows texts = list_any (λ v. fits len (measure count v.items) && not (is_some (maps.second_of v.items rows.rows))) texts
 
 -- ---- where texts are from
 
@@ -67,8 +66,7 @@ Origin = Option (Bor (List ℕ)) × Option (Bor (List ℕ))
 -- any text can be read
 abbrev pub is_any : Option (List ℕ) → Option (List ℕ) → Bool
 is_any None None = true
-is_any None (Some table) = false
-is_any (Some rows) table = false
+is_any rows table = false
 
 abbrev pub texts_in : Values → List (List ℕ)
 texts_in (any count len) = []

@@ -10,20 +10,12 @@ use Rattle.gw_leaves.specs.declared.shape.Presence.TheVariants.{Always, Maybe, N
 use Rattle.gw_leaves.proofs.presence.others_presence.Goals as goal
 
 in_turn : (p q r : Presence) → either p (either q r) ≡ either (either p q) r
-in_turn Always q r = refl
-in_turn Maybe Always r = refl
 in_turn Maybe Maybe Always = refl
-in_turn Maybe Maybe Maybe = refl
-in_turn Maybe Maybe Never = refl
-in_turn Maybe Never Always = refl
-in_turn Maybe Never Maybe = refl
-in_turn Maybe Never Never = refl
-in_turn Never q r = refl
+in_turn p q r = refl
 
 no_other : (p : Presence) → either p Never ≡ p
 no_other Always = refl
-no_other Maybe = refl
-no_other Never = refl
+no_other p = refl
 
 module _ {X : Type 0} (s : Sources) (f : X → Alternative) (xs : List X) (i : ℕ) (p : Presence) (so_far : first_presence s (map f xs) ≡ either p (first_presence s (map f (drop i xs)))) where
   one_more : (x : X) (q : Presence) → i < length xs → x ≡ get_or xs i x → q ≡ either p (leaf_shape s (f x).leaf).presence → first_presence s (map f xs) ≡ either q (first_presence s (map f (drop (i + 1) xs)))
