@@ -4,6 +4,7 @@ use Rattle.std.specs.Prelude.{if◌then◌else◌}
 use Rattle.std.specs.List.{AllByRecursion}
 use Rattle.std.proofs.lemmas.List.{take_more, map-append}
 use Rattle.std.proofs.lemmas.Grind.{common_steps}
+use Rattle.std.proofs.lemmas.Bool.{cases_lt}
 use Rattle.std.proofs.lemmas.Bool.Decides.{eqb_tells}
 use Rattle.gw_profile.specs.Shapes.{SubValue, CompValue, FieldValue, ProfileValue}
 use Rattle.gw_profile.specs.Lengths.{len_count}
@@ -245,6 +246,22 @@ module _ {Y : Type 0} (value : Y → SubValue) (profile : ProfileValue) (m : Tex
   pub sub_more : NoneYet At (map value (take i subs)) → Least (SubBreach profile (value y) text) None → NoneYet At (map value (take (i + 1) subs))
   sub_more n l = any_more value (λ s. s.number) At subs i y lt at n (subst (λ t. Least (SubBreach profile (value y) t) None) is l)
 
+-- the only leaf
+module _ (profile : ProfileValue) (m : Texts) (f r c : ℕ) (x : SubValue) (text : List ℕ) (is : text ≡ text_of m f r c x.number) where
+  abbrev AtLeaf : SubValue → List ℕ → Type 0
+  AtLeaf s = SubBreach profile s (text_of m f r c s.number)
+
+  alone_least : (k : Option Kind) → 0 < x.number → Least (AtLeaf x) (option_map (λ kind. number_of kind ∷ []) k) → Least (SubsBreach profile m f r c (x ∷ [])) (option_map (λ kind. x.number ∷ number_of kind ∷ []) k)
+  alone_least None low l = none_at_all (λ s. s.number) AtLeaf (x ∷ []) (l, tt)
+  alone_least (Some kind) low l = least_at (λ s. s.number) AtLeaf [] x [] 0 (number_of kind ∷ []) tt (low, tt) l
+
+  pub only_least : (subs : List SubValue) (k : Option Kind) (o : Option Spot) → subs ≡ x ∷ [] → Rises (λ s. s.number) 0 subs → option_map comp_key o ≡ option_map (λ kind. x.number ∷ number_of kind ∷ []) k → Least (SubBreach profile x text) (option_map (λ kind. number_of kind ∷ []) k) → Least (SubsBreach profile m f r c subs) (option_map comp_key o)
+  only_least subs k o alone rises said l =
+      let low = subst (Rises (λ s. s.number) 0) alone rises in
+      subst (λ ys. Least (SubsBreach profile m f r c ys) (option_map comp_key o)) (sym alone)
+      (subst (Least (SubsBreach profile m f r c (x ∷ []))) (sym said)
+      (alone_least k low.0 (subst (λ t. Least (SubBreach profile x t) (option_map (λ kind. number_of kind ∷ []) k)) is l)))
+
 module _ (m : Texts) (f r : ℕ) (last : ℕ) (is : IsLast (CompAt m f r) last) where
   pub no_rep : last ≡ 0 → RepAt m f r → ⊥
   no_rep z p = let w = is.within p.0 p.1 in omega (arith, w.0, w.1, z)
@@ -337,3 +354,33 @@ module _ (profile : ProfileValue) (m : Texts) (shape : FieldValue) where
 
 pub reps_start : (profile : ProfileValue) (m : Texts) (shape : FieldValue) → ((r : ℕ) → RepAt m shape.number r → 0 < r) → RepsGoing profile m shape 0 0
 reps_start profile m shape some = record { counted = refl; small = omega arith; none = λ r q le there b. omega (arith, some r there, le) }
+
+-- where no repetition is present, only too few can be
+module _ (profile : ProfileValue) (m : Texts) (shape : FieldValue) (some : (r : ℕ) → RepAt m shape.number r → 0 < r) (none : (r : ℕ) → RepAt m shape.number r → r ≤ 0) where
+  not_there : (r : ℕ) → RepAt m shape.number r → ⊥
+  not_there r p = omega (arith, some r p, none r p)
+
+  short : 0 < shape.card.min → IsShort (RepAt m shape.number) shape.card.min
+  short lt = record {
+    count = 0;
+    is = record { last = 0; is = record { there = λ h. absurd (omega (arith, h)); within = λ r p. (some r p, none r p) }; counted = refl };
+    less = lt;
+  }
+
+  no_breach : (is_forbidden shape.usage ≡ false → 0 < shape.card.min → ⊥) → Least (FieldBreach profile m shape) None
+  no_breach may q (too_few a b c d) = may a (omega (arith, d))
+  no_breach may q (field_forbidden a b) = not_there b.0 b.1
+  no_breach may q (in_reps (in_rep {r = r} there b)) = not_there r there
+
+  pub absent_field_least : (o : Option (List ℕ)) → (is_forbidden shape.usage ≡ false → 0 < shape.card.min → o ≡ Some (0 ∷ 0 ∷ 0 ∷ 3 ∷ [])) → ((is_forbidden shape.usage ≡ false → 0 < shape.card.min → ⊥) → o ≡ None) → Least (FieldBreach profile m shape) o
+  absent_field_least o said else_none = by (is_forbidden shape.usage) refl
+    where
+      keeps : (is_forbidden shape.usage ≡ false → 0 < shape.card.min → ⊥) → Least (FieldBreach profile m shape) o
+      keeps may = subst (Least (FieldBreach profile m shape)) (sym (else_none may)) (no_breach may)
+
+      by : (b : Bool) → is_forbidden shape.usage ≡ b → Least (FieldBreach profile m shape) o
+      by true e = keeps (λ u lt. true_false (sym e ∙ u))
+      by false e = elim (cases_lt 0 shape.card.min) as (λ _. Least (FieldBreach profile m shape) o) [
+        | inl lt ↦ subst (Least (FieldBreach profile m shape)) (sym (said e lt)) (few_least profile m shape some e (short lt))
+        | inr le ↦ keeps (λ u lt. omega (arith, lt, le))
+      ]

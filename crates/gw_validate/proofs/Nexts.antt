@@ -2,13 +2,16 @@
 use Rattle.std.proofs.Common.{◌≡◌, ℕ, zero, suc, ◌+◌, ◌-◌, ◌<◌, ◌≤◌, inl, inr, false, List, [], ◌∷◌, Option, None, Some, refl, sym, subst, arith, length, slice_get}
 use Rattle.std.specs.Prelude.{MatchOption, is_some}
 use Rattle.std.specs.FinMap as texts
+use Rattle.std.specs.declared.cmp.Ordering.TheVariants.{Less}
 use Rattle.std.proofs.lemmas.Bool.{cases_lt}
+use Rattle.gw_er7.specs.Entries.{Entry}
 use Rattle.gw_er7.specs.Message.{Texts, SegmentValue, IsSegment, IsEntry, first_field}
 use Rattle.gw_er7.specs.Presence.{SubAt, CompAt, RepAt, FieldAt, IsStart}
 use Rattle.gw_validate.specs.Breaches.{Counted, NotAfter}
 use Rattle.gw_validate.proofs.Leasts.{counted_yes}
 use Rattle.gw_validate.specs.own.Walk.{IsBefore, IsNextRep, IsNoRep}
-use Rattle.gw_validate.proofs.Walks.{self, up_to, before_on, from_start}
+use Rattle.gw_validate.proofs.Walks.{self, up_to, before_on, from_start, start_at, start_end, less_here}
+use Rattle.gw_validate.proofs.Keys.{order, never_less}
 use Rattle.gw_validate.proofs.Starts.{stands, present, each_at, heads, seconds, inside, low, early}
 
 module _ (v : SegmentValue) (f after start : ℕ) (whole : IsSegment v) (begin : IsStart (f ∷ (after + 1) ∷ 0 ∷ 0 ∷ []) (texts.entries v.at) start) where
@@ -92,6 +95,29 @@ pub each_some : (m : Texts) (f : ℕ) (o : Option ℕ) → MatchOption o (IsNoRe
 each_some m f None h = h.some
 each_some m f (Some r) h = h.some
 
+-- ---- the first text of a field
+
+pub below_field : (f g r c s : ℕ) → g < f → order (g ∷ r ∷ c ∷ s ∷ []) (f ∷ 1 ∷ 0 ∷ 0 ∷ []) ≡ Less
+below_field f g r c s lt = less_here (g ∷ r ∷ c ∷ s ∷ []) (f ∷ 1 ∷ 0 ∷ 0 ∷ []) refl (λ n. omega (arith, lt, heads f g (1 ∷ 0 ∷ 0 ∷ []) (r ∷ c ∷ s ∷ []) n))
+
+module _ (v : SegmentValue) (f n : ℕ) (whole : IsSegment v) (before : IsBefore (f ∷ 1 ∷ 0 ∷ 0 ∷ []) (texts.entries v.at) n) where
+  -- where no text is left
+  pub none_behind : length (texts.entries v.at) ≤ n → IsNoRep v.at f 0
+  none_behind past = none_left v f 0 n whole (start_end (f ∷ 1 ∷ 0 ∷ 0 ∷ []) (texts.entries v.at) n before past) past
+
+  pub field_start : (g r c s : ℕ) (t : List ℕ) → slice_get (texts.entries v.at) n ≡ Some (g ∷ r ∷ c ∷ s ∷ [], t) → f ≤ g → IsStart (f ∷ 1 ∷ 0 ∷ 0 ∷ []) (texts.entries v.at) n
+  field_start g r c s t at le =
+      start_at (f ∷ 1 ∷ 0 ∷ 0 ∷ []) (texts.entries v.at) n (g ∷ r ∷ c ∷ s ∷ [], t) (texts.entries_sorted v.at) before at (never_less (g ∷ r ∷ c ∷ s ∷ []) (f ∷ 1 ∷ 0 ∷ 0 ∷ []) refl after)
+    where
+      entry : IsEntry (first_field v.name) (g ∷ r ∷ c ∷ s ∷ [], t)
+      entry = each_at (IsEntry (first_field v.name)) (texts.entries v.at) n (g ∷ r ∷ c ∷ s ∷ [], t) whole.each at
+
+      some : 0 < r
+      some = entry.key.positive.1.0
+
+      after : NotAfter (f ∷ 1 ∷ 0 ∷ 0 ∷ []) (g ∷ r ∷ c ∷ s ∷ [])
+      after = up_to f g le (1 ∷ 0 ∷ 0 ∷ []) (r ∷ c ∷ s ∷ []) (up_to 1 r (omega (arith, some)) (0 ∷ 0 ∷ []) (c ∷ s ∷ []) (up_to 0 c (omega arith) (0 ∷ []) (s ∷ []) (up_to 0 s (omega arith) [] [] tt)))
+
 -- ---- a component
 
 module _ (v : SegmentValue) (f r c start : ℕ) (whole : IsSegment v) (begin : IsStart (f ∷ r ∷ c ∷ 0 ∷ []) (texts.entries v.at) start) where
@@ -133,6 +159,12 @@ module _ (v : SegmentValue) (f r c start : ℕ) (whole : IsSegment v) (begin : I
       where
         equal : (a b : ℕ) (x y z : List ℕ) → NotAfter (a ∷ x) (b ∷ y) → NotAfter (b ∷ z) (a ∷ x) → a ≡ b
         equal a b x y z up down = omega (arith, heads a b x y up, heads b a z x down)
+
+-- a text at a place that is of a component
+pub of_comp : (es : List Entry) (f r c s n g0 r0 c0 s0 : ℕ) (t : List ℕ) → slice_get es n ≡ Some (g0 ∷ r0 ∷ c0 ∷ s0 ∷ [], t) → (g0 ≡ f) × (r0 ≡ r) × (c0 ≡ c) → s ≡ s0 → slice_get es n ≡ Some (f ∷ r ∷ c ∷ s ∷ [], t)
+of_comp es f r c s n g0 r0 c0 s0 t at is sub =
+    subst (λ i. slice_get es n ≡ Some (i ∷ r ∷ c ∷ s ∷ [], t)) is.0 (subst (λ i. slice_get es n ≡ Some (g0 ∷ i ∷ c ∷ s ∷ [], t)) is.1 (subst (λ i. slice_get es n ≡ Some (g0 ∷ r0 ∷ i ∷ s ∷ [], t)) is.2
+    (subst (λ i. slice_get es n ≡ Some (g0 ∷ r0 ∷ c0 ∷ i ∷ [], t)) (sym sub) at)))
 
 -- nothing is present between
 pub counted_gap : (P : ℕ → Type 0) (n r k : ℕ) → n < r → ((j : ℕ) → n < j → P j → r ≤ j) → Counted P n k → Counted P (r - 1) k

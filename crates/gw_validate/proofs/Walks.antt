@@ -153,6 +153,11 @@ module _ (v : SegmentValue) (f r c s start : ℕ) (begin : IsStart (f ∷ r ∷ 
     pub behind_here : start < length (texts.entries v.at) → Found ≡ Key → IsBefore Next (texts.entries v.at) (start + 1)
     behind_here within same = before_more Next (texts.entries v.at) start (Found, t0) behind_start within at (subst (λ (k : List ℕ). order k Next ≡ Less) (sym same) (behind_sub f r c s))
 
+pub text_is : (v : SegmentValue) (f r c s n : ℕ) (t : List ℕ) → slice_get (texts.entries v.at) n ≡ Some (f ∷ r ∷ c ∷ s ∷ [], t) → text_of v.at f r c s ≡ t
+text_is v f r c s n t at =
+    let key = f ∷ r ∷ c ∷ s ∷ [] in
+    ap (λ (o : Option (List ℕ)). unwrap_or o []) (texts.get-entries v.at key ∙ find_at key t (texts.entries v.at) n (texts.entries_sorted v.at) at)
+
 -- ---- places
 
 -- the test that the derived `==` makes
@@ -217,6 +222,16 @@ first_comp f r es n b = before_on (f ∷ r ∷ 0 ∷ 0 ∷ []) (f ∷ r ∷ (0 +
 
 pub first_sub : (f r c : ℕ) (es : List Entry) (n : ℕ) → IsBefore (f ∷ r ∷ c ∷ 0 ∷ []) es n → IsBefore (f ∷ r ∷ c ∷ 1 ∷ []) es n
 first_sub f r c es n b = before_on (f ∷ r ∷ c ∷ 0 ∷ []) (f ∷ r ∷ c ∷ 1 ∷ []) es n refl (inr (refl, inr (refl, inr (refl, inl (omega arith))))) b
+
+-- behind a text of a component that is its last
+pub behind_comp : (f r c s : ℕ) (t : List ℕ) (es : List Entry) (n : ℕ) → IsBefore (f ∷ r ∷ c ∷ 0 ∷ []) es n → n < length es → slice_get es n ≡ Some (f ∷ r ∷ c ∷ s ∷ [], t) → IsBefore (f ∷ r ∷ (c + 1) ∷ 0 ∷ []) es (n + 1)
+behind_comp f r c s t es n b within at = before_more (f ∷ r ∷ (c + 1) ∷ 0 ∷ []) es n (f ∷ r ∷ c ∷ s ∷ [], t) (comp_end f r c 0 es n b) within at (less_here (f ∷ r ∷ c ∷ s ∷ []) (f ∷ r ∷ (c + 1) ∷ 0 ∷ []) refl never)
+  where
+    never : NotAfter (f ∷ r ∷ (c + 1) ∷ 0 ∷ []) (f ∷ r ∷ c ∷ s ∷ []) → ⊥
+    never n =
+        let in_field = seconds f f (r ∷ (c + 1) ∷ 0 ∷ []) (r ∷ c ∷ s ∷ []) refl n in
+        let in_rep = seconds r r ((c + 1) ∷ 0 ∷ []) (c ∷ s ∷ []) refl in_field in
+        omega (arith, heads (c + 1) c (0 ∷ []) (s ∷ []) in_rep)
 
 pub where_none : {A : Type 0} {P : Type 0} (o : Option A) → P → IfNone o P
 where_none None p = p

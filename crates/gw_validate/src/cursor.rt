@@ -127,6 +127,46 @@ pub(crate) fn next_rep(
     Some(value.place.rep)
 }
 
+// The first text of a field or behind it, with its number. Those before the number `near` stand below the field.
+#[inline(always)]
+fn first_of<'a>(segment: &Segment<'a>, near: usize, field: usize) -> (usize, Option<Value<'a>>)
+    requires { IsBefore (field ∷ 1 ∷ 0 ∷ 0 ∷ []) (texts.entries segment.now.at) near }
+    ensures start { IsStart (field ∷ 1 ∷ 0 ∷ 0 ∷ []) (texts.entries segment.now.at) result.0 }
+    ensures value { IsValueAt (texts.entries segment.now.at) result.0 result.1 }
+{
+    let mut at = near;
+    while at < segment.value_count() {
+        let value = segment.value(at);
+        if value.place.field >= field {
+            return (at, Some(value));
+        }
+        at += 1;
+    }
+    (at, None)
+}
+
+/// The first repetition of a field that is present. It is looked for from the number `near` on, which rises to its first text.
+#[inline(always)]
+pub(crate) fn first_rep(segment: &Segment<'_>, near: &mut usize, field: usize) -> Option<usize>
+    requires { IsBefore (field ∷ 1 ∷ 0 ∷ 0 ∷ []) (texts.entries segment.now.at) near.old }
+    ensures next { MatchOption result (IsNoRep segment.now.at field 0) (IsNextRep segment.now.at field 0) }
+    ensures here { MatchOption result (IsBefore ((field + 1) ∷ 0 ∷ 0 ∷ 0 ∷ []) (texts.entries segment.now.at) near.new)
+        (λ rep. IsBefore (field ∷ rep ∷ 0 ∷ 0 ∷ []) (texts.entries segment.now.at) near.new) }
+    ensures near { IsBefore (field ∷ 1 ∷ 0 ∷ 0 ∷ []) (texts.entries segment.now.at) near.new }
+{
+    // (its clause says what every segment keeps)
+    let _count = segment.value_count();
+    let (at, found) = first_of(segment, *near, field);
+    *near = at;
+    let Some(value) = found else {
+        return None;
+    };
+    if value.place.field != field {
+        return None;
+    }
+    Some(value.place.rep)
+}
+
 /// Whether a field is present, by its first repetition that is.
 #[inline(always)]
 pub(crate) fn is_there(segment: &Segment<'_>, field: usize, first: Option<usize>) -> bool

@@ -1,5 +1,5 @@
 //! The least breach of a segment's shape.
-ghost use Rattle.std.specs.Prelude.{◌≡◌, ℕ, ◌<◌, ◌∷◌, [], option_map, IfNone, false, true, length, ◌-◌, ◌+◌, ◌≤◌, Some, None, if◌then◌else◌, map, MatchOption};
+ghost use Rattle.std.specs.Prelude.{◌≡◌, ℕ, ◌<◌, ◌∷◌, [], option_map, IfNone, false, true, length, ◌-◌, ◌+◌, ◌≤◌, IfSome, Some, None, if◌then◌else◌, map, MatchOption};
 ghost use Rattle.std.specs.List.{AllByRecursion};
 ghost use Rattle.std.specs.FinMap as texts;
 ghost use Rattle.gw_er7.specs.Presence.{FieldAt, RepAt, CompAt, IsStart};
@@ -8,10 +8,10 @@ ghost use Rattle.gw_validate.specs.declared.breach.Kind.TheVariants.{MissingValu
 ghost use Rattle.gw_validate.specs.Kinds.{number_of};
 ghost use Rattle.gw_validate.specs.Breaches.{is_required, is_forbidden, is_long, is_unlisted, is_null, SubBreach, CompBreach, RepBreach, RepsBreach, FieldBreach, SegmentBreach, Counted};
 ghost use Rattle.gw_validate.specs.own.Least.{Least, CompRises, FieldRises, ShapeRises, Rises, comp_key, rep_key, field_key, segment_key, is_full, SubsBreach, CompsBreach};
-ghost use Rattle.gw_validate.specs.own.Walk.{IsBefore, IsValueAt, IsNextRep, IsNoRep, IsCount, IsShort};
+ghost use Rattle.gw_validate.specs.own.Walk.{IsBefore, IsOnly, IsValueAt, IsNextRep, IsNoRep, IsCount, IsShort};
 
 use crate::breach::Kind;
-use crate::cursor::{first_from, is_there, next_rep, text_from};
+use crate::cursor::{first_from, first_rep, is_there, next_rep, text_from};
 use gw_er7::{Place, Segment, Value};
 use gw_profile::{CompShape, Count, FieldShape, Profile, SubShape, Usage, measure};
 
@@ -150,6 +150,62 @@ fn subs_breach(
     None
 }
 
+// The leaf of a component, where it has this one alone and its number is the one given.
+fn only_leaf(subs: &[SubShape], number: usize) -> Option<&SubShape>
+    ensures { IfSome result (λ leaf. IsOnly (map sub subs.now) (sub leaf.now) number) }
+{
+    match subs {
+        [leaf] => {
+            if leaf.number as usize != number {
+                return None;
+            }
+            Some(leaf)
+        }
+        _ => None,
+    }
+}
+
+// What a breach at a leaf says.
+fn at_leaf(shape: &SubShape, kind: Option<Kind>) -> Option<Spot>
+    ensures { option_map comp_key result ≡ option_map (λ kind. shape.now.number ∷ number_of kind ∷ []) kind }
+{
+    match kind {
+        Some(kind) => Some(Spot {
+            sub: shape.number as usize,
+            ..of_kind(kind)
+        }),
+        None => None,
+    }
+}
+
+// The least breach at the leaves of a component that is present, of which the first text is known, with its number `near`.
+fn leaves_breach(
+    profile: &Profile,
+    segment: &Segment<'_>,
+    near: &mut usize,
+    found: Option<Value<'_>>,
+    comp: Place,
+    subs: &[SubShape],
+) -> Option<Spot>
+    requires rises { Rises (λ s. s.number) 0 (map sub subs.now) }
+    requires there { CompAt segment.now.at comp.field comp.rep comp.comp }
+    requires start { IsStart (comp.field ∷ comp.rep ∷ comp.comp ∷ 0 ∷ []) (texts.entries segment.now.at) near.old }
+    requires value { IsValueAt (texts.entries segment.now.at) near.old found }
+    ensures least { Least (SubsBreach (profile_value profile.now) segment.now.at comp.field comp.rep comp.comp (map sub subs.now)) (option_map comp_key result) }
+    ensures near { IfNone result (IsBefore (comp.field ∷ comp.rep ∷ (comp.comp + 1) ∷ 0 ∷ []) (texts.entries segment.now.at) near.new) }
+{
+    // (its clause says what every segment keeps)
+    let _count = segment.value_count();
+    let Some(value) = found else {
+        return None;
+    };
+    let Some(leaf) = only_leaf(subs, value.place.sub) else {
+        return subs_breach(profile, segment, near, comp.field, comp.rep, comp.comp, subs);
+    };
+    *near += 1;
+    at_leaf(leaf, sub_breach(profile, leaf, value.text))
+}
+
 // The breach at a component that is absent.
 fn absent_comp(shape: &CompShape) -> Option<Spot>
     ensures { option_map comp_key result ≡ (if is_required shape.now.usage then Some (0 ∷ 3 ∷ []) else None) }
@@ -226,7 +282,7 @@ fn comp_breach(
     if is_forbidden(shape.usage) {
         return Some(of_kind(Kind::Forbidden));
     }
-    subs_breach(profile, segment, near, field, rep, place.comp, &shape.subs)
+    leaves_breach(profile, segment, near, found, place, &shape.subs)
 }
 
 // The least breach at the components of a repetition.
@@ -364,6 +420,20 @@ pub(crate) fn comes_short(
     (count as u64) < u64::from(shape.card.min)
 }
 
+// The breach of a field behind the last text of a segment.
+fn absent_field(shape: &FieldShape) -> Option<Spot>
+    ensures yes { is_forbidden shape.now.usage ≡ false → 0 < shape.now.card.min → option_map field_key result ≡ Some (0 ∷ 0 ∷ 0 ∷ 3 ∷ []) }
+    ensures no { (is_forbidden shape.now.usage ≡ false → 0 < shape.now.card.min → ⊥) → option_map field_key result ≡ None }
+{
+    if is_forbidden(shape.usage) {
+        return None;
+    }
+    if shape.card.min == 0 {
+        return None;
+    }
+    Some(of_kind(Kind::MissingValue))
+}
+
 // The least breach of a field. Its texts are looked for from the number `near` on, which rises to the text behind them.
 fn field_breach(
     profile: &Profile,
@@ -376,8 +446,11 @@ fn field_breach(
     ensures least { Least (FieldBreach (profile_value profile.now) segment.now.at (field_value shape.now)) (option_map field_key result) }
     ensures near { IfNone result (IsBefore ((shape.now.number + 1) ∷ 0 ∷ 0 ∷ 0 ∷ []) (texts.entries segment.now.at) near.new) }
 {
+    if *near >= segment.value_count() {
+        return absent_field(shape);
+    }
     let field = shape.number as usize;
-    let first = next_rep(segment, near, field, 0);
+    let first = first_rep(segment, near, field);
     let present = is_there(segment, field, first);
     if is_forbidden(shape.usage) {
         if !present {

@@ -1,5 +1,5 @@
 -- A walk over the texts of a segment, in order.
-use Rattle.std.specs.Prelude.{◌≡◌, ℕ, ◌+◌, ◌^◌, ◌<◌, ◌≤◌, List, length, Option, None, Some, slice_get}
+use Rattle.std.specs.Prelude.{◌≡◌, ℕ, ◌+◌, ◌^◌, ◌<◌, ◌≤◌, List, [], ◌∷◌, length, Option, None, Some, slice_get}
 use Rattle.std.specs.Ordering.{nat_cmp}
 use Rattle.std.specs.declared.cmp.Ordering.TheVariants.{Less}
 use Rattle.std.specs.Cmp.Lexicographic.{slice_cmp}
@@ -7,6 +7,7 @@ use Rattle.gw_er7.specs.Entries.{Entry}
 use Rattle.gw_er7.specs.declared.view.Value.{Value}
 use Rattle.gw_er7.specs.Message.{Texts, numbers}
 use Rattle.gw_er7.specs.Presence.{RepAt, IsLast}
+use Rattle.gw_profile.specs.Shapes.{SubValue}
 use Rattle.gw_validate.specs.Breaches.{Counted}
 use Rattle.gw_validate.specs.own.Least.{Rises}
 
@@ -25,6 +26,11 @@ pub record IsHere (es : List Entry) (n : ℕ) (entry : Entry) : Type 0 where
 abbrev pub IsValueAt : List Entry → ℕ → Option Value → Type 0
 IsValueAt es n None = length es ≤ n
 IsValueAt es n (Some v) = IsHere es n (numbers v.place, v.text.now)
+
+-- these leaves are this one alone, and it has this number
+pub record IsOnly (subs : List SubValue) (leaf : SubValue) (number : ℕ) : Type 0 where
+  pub alone : subs ≡ leaf ∷ []
+  pub is : leaf.number ≡ number
 
 -- the first repetition behind this one that is present
 pub record IsNextRep (m : Texts) (f after rep : ℕ) : Type 0 where
