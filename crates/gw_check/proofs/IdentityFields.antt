@@ -91,7 +91,7 @@ ruled n low high (f ∷ fields) r =
     let none : f.number ≡ n → rule_of (same_rules fields) n ≡ None = λ e. none_below n (suc f.number) high fields (omega (arith, e)) r.2 in
     elim (tells (f.number == n)) [
       | inl e ↦ rw e (elim (line.is_forbidden (Some f.usage)) as (λ b. rule_of (if b then same_rules fields else same_rule f.number ∷ same_rules fields) n ≡ rule_or b f.number)
-            [ true ↦ none (eqb-true f.number n e) | false ↦ rw e refl ])
+          [ true ↦ none (eqb-true f.number n e) | false ↦ rw e refl ])
       | inr e ↦ rw e (elim (line.is_forbidden (Some f.usage)) as (λ b. rule_of (if b then same_rules fields else same_rule f.number ∷ same_rules fields) n ≡ copy_of (field_of fields n)) [ true ↦ later | false ↦ rw e later ])
     ]
 

@@ -88,8 +88,8 @@ items_hold profile names e scope j nothing h d l g = refl
 items_hold profile names e scope j (segment s rest) h d l g =
     let here = segment_stands (nodes_of e) j s rest h in
     let fields =
-        ap₂ (λ w c. segment_failures (sources profile w) profile 0 (same_rules s.fields) (fields_of c)) (within_there e scope j s.label (a_segment s) here) here.child_is
-        ∙ segment_holds profile names s (e ∷ scope) l.0 in
+    ap₂ (λ w c. segment_failures (sources profile w) profile 0 (same_rules s.fields) (fields_of c)) (within_there e scope j s.label (a_segment s) here) here.child_is
+    ∙ segment_holds profile names s (e ∷ scope) l.0 in
     let behind = items_hold profile names e scope (suc j) rest (behind_segment (nodes_of e) j s rest h d) d.1 l.1 g in
     elim (line.is_forbidden (Some s.usage)) as (λ b. items_failures profile profile (e ∷ scope) (nodes_of e) (if b then same (suc j) rest else segment_item (same_segment j s) (same (suc j) rest)) ≡ [])
     [ true ↦ behind | false ↦ no_more _ _ fields behind ]

@@ -247,7 +247,7 @@ items_are tables e scope j (segment s rest) h d g =
     let later = items_are tables e scope (suc j) rest (behind_segment (nodes_of e) j s rest h d) d.1 g in
     elim (is_forbidden (Some s.usage)) as
     (λ b. resolved_items tables (e ∷ scope) (nodes_of e) (if b then same_items rest else raw.segment (segment_of s) (same_items rest))
-        ≡ (if b then same (suc j) rest else segment_item (same_segment j s) (same (suc j) rest)))
+    ≡ (if b then same (suc j) rest else segment_item (same_segment j s) (same (suc j) rest)))
     [ true ↦ later | false ↦ λ i. segment_item (record { line = 0; child = number i; place = Some (walks i); condition = None; rules = rules i }) (later i) ]
 items_are tables e scope j (group x nodes rest) h d g =
     let here = group_stands (nodes_of e) j x nodes rest h in

@@ -85,6 +85,7 @@ pub(crate) fn is_unlisted(profile: &Profile, table: &Option<Vec<u8>>, text: &[u8
 }
 
 // The least kind of breach at a leaf.
+#[inline(always)]
 fn sub_breach(profile: &Profile, shape: &SubShape, text: &[u8]) -> Option<Kind>
     ensures { Least (SubBreach (profile_value profile.now) (sub shape.now) text.now) (option_map (λ kind. number_of kind ∷ []) result) }
 {
@@ -200,7 +201,9 @@ fn leaves_breach(
         return None;
     };
     let Some(leaf) = only_leaf(subs, value.place.sub) else {
-        return subs_breach(profile, segment, near, comp.field, comp.rep, comp.comp, subs);
+        return subs_breach(
+            profile, segment, near, comp.field, comp.rep, comp.comp, subs,
+        );
     };
     *near += 1;
     at_leaf(leaf, sub_breach(profile, leaf, value.text))
