@@ -5,7 +5,8 @@ ghost use Rattle.gw_lines.specs.Seen.{word};
 ghost use Rattle.gw_lines.specs.Parts.{with_all};
 ghost use Rattle.gw_lines.specs.Values.{bytes_of};
 ghost use Rattle.gw_maplang.specs.Line as spec;
-ghost use Rattle.gw_maplang.specs.Seen.{line, now, now_all, path, field_path, ref, leaf, alternative, leaf_value, condition, condition_some, field_condition, field_condition_some, walk, walk_some, dropped};
+ghost use Rattle.gw_maplang.specs.Seen.{line, now, now_all, path, field_path, ref, leaf, alternative, leaf_value, dropped};
+ghost use Rattle.gw_maplang.specs.Seen.{condition, condition_some, field_condition, field_condition_some, walk, walk_some};
 
 use crate::parts::{
     copies, drop_of, field_path, field_place, is_table_word, path_of, place_of, ref_of,
