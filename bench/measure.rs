@@ -9,7 +9,7 @@ use std::io::{self, BufRead, BufReader};
 use std::path::{Path, PathBuf};
 use std::process::{Command, ExitCode};
 use std::{env, fs};
-use taken::{run, Taken};
+use taken::{anonymous, run, Taken};
 
 const STAMP: &str = "20240102030406";
 
@@ -32,6 +32,8 @@ struct Row {
     messages: usize,
     program: Taken,
     forms: [Taken; 3],
+    /// The anonymous memory of the program and of `slices`, in kB.
+    own: [i64; 2],
 }
 
 impl Row {
@@ -96,6 +98,10 @@ impl Bench {
             return Err(io::Error::other("no round was run"));
         };
         let forms = [owned, lending, slices];
+        let own = [
+            anonymous(&mut self.command(&profile, None), &input, &answers[0])?,
+            anonymous(&mut self.command(&profile, Some(FORMS[2])), &input, &answers[3])?,
+        ];
         let mut messages = 0;
         for ((form, taken), other) in FORMS.iter().zip(forms).zip(&answers[1..]) {
             let same = same_answers(&answers[0], other)?;
@@ -113,23 +119,25 @@ impl Bench {
             messages,
             program,
             forms,
+            own,
         })
     }
 
     /// What the program takes, and how many times as fast as each form of the baseline it is, and how many times as much memory it takes.
     fn print_honest(&self, streams: &[(&'static str, &str)]) -> io::Result<()> {
-        println!("| Stream | MB | Messages | MB/s | messages/s | peak kB | speed to owned | lending | slices | memory to owned | lending | slices |");
-        println!("|---|---|---|---|---|---|---|---|---|---|---|---|");
+        println!("| Stream | MB | Messages | MB/s | messages/s | peak kB | anonymous kB | speed to owned | lending | slices | peak to owned | lending | slices | anonymous to slices |");
+        println!("|---|---|---|---|---|---|---|---|---|---|---|---|---|---|");
         for (name, profile) in streams {
             let row = self.row(name, profile)?;
             print!(
-                "| {} | {:.1} | {} | {:.1} | {:.0} | {} |",
+                "| {} | {:.1} | {} | {:.1} | {:.0} | {} | {} |",
                 row.name,
                 row.bytes / 1e6,
                 row.messages,
                 row.speed(row.program),
                 row.messages as f64 / row.program.seconds,
                 row.program.kilobytes,
+                row.own[0],
             );
             for form in row.forms {
                 print!(" {:.2} |", form.seconds / row.program.seconds);
@@ -138,7 +146,7 @@ impl Bench {
                 let times = row.program.kilobytes as f64 / form.kilobytes as f64;
                 print!(" {times:.2} |");
             }
-            println!();
+            println!(" {:.2} |", row.own[0] as f64 / row.own[1] as f64);
         }
         Ok(())
     }

@@ -1,11 +1,12 @@
 //! What a child process takes: processor seconds (user and system), which other work on the machine disturbs less than the clock's, the clock's, and the peak of resident memory.
 // (each tool uses some of it)
 #![allow(dead_code)]
-use std::fs::File;
+use std::fs::{self, File};
 use std::io;
 use std::path::Path;
 use std::process::{Child, Command, Stdio};
-use std::time::Instant;
+use std::thread;
+use std::time::{Duration, Instant};
 
 /// `struct rusage` of Linux on 64 bits, up to the peak of resident memory; the rest isn't looked at.
 #[repr(C)]
@@ -54,6 +55,26 @@ pub fn run(command: &mut Command, input: &Path, output: &Path) -> io::Result<Tak
         .stderr(Stdio::null())
         .spawn()?;
     end(&child, begun)
+}
+
+/// The most anonymous memory of a run, in kB, as far as a look each half millisecond sees it: what the run itself takes, without the pages of the
+/// program's file and of its libraries.
+pub fn anonymous(command: &mut Command, input: &Path, output: &Path) -> io::Result<i64> {
+    let mut child = command
+        .stdin(File::open(input)?)
+        .stdout(File::create(output)?)
+        .stderr(Stdio::null())
+        .spawn()?;
+    let status = format!("/proc/{}/status", child.id());
+    let mut most = 0;
+    while child.try_wait()?.is_none() {
+        let text = fs::read_to_string(&status).unwrap_or_default();
+        let line = text.lines().find_map(|line| line.strip_prefix("RssAnon:"));
+        let number = line.and_then(|line| line.split_whitespace().next());
+        most = most.max(number.and_then(|it| it.parse().ok()).unwrap_or(0));
+        thread::sleep(Duration::from_micros(500));
+    }
+    Ok(most)
 }
 
 /// Waits for the end of a child that began then.
