@@ -1,5 +1,5 @@
 -- A courier's rounds.
-use Rattle.std.proofs.Common.{◌≡◌, ◌≤◌, ◌<◌, ◌+◌, ℕ, Bool, true, false, List, [], ◌∷◌, ◌++◌, Option, None, Some, IfSome, Result, Ok, Err, IfErr, length, refl}
+use Rattle.std.proofs.Common.{◌≡◌, ◌≤◌, ◌<◌, ◌+◌, ℕ, Bool, true, false, List, [], ◌∷◌, ◌++◌, Option, IfSome, Result, Ok, Err, IfErr, length, refl}
 use Rattle.std.proofs.Common.{sym, ap, subst, ◌∙◌, arith, append_assoc, append-nil, length-append}
 use Rattle.std.proofs.KnownBytes.{Appends-nil, Appends-trans, Consumes-nil, Consumes-trans, Consumes-whole}
 use Rattle.std.specs.Io.KnownBytes.{Appends, Consumes, IsAtEnd}
@@ -12,10 +12,10 @@ use Rattle.gw_er7.specs.Written.{written}
 use Rattle.gw_gate.specs.Journal.{WasOut}
 use Rattle.gw_gate.specs.Parts.{TranslatedSeen}
 use Rattle.gw_gate.specs.Seen.{message_seen}
-use Rattle.gw_mllp.specs.Stream.{Has, HasGiven, Held, IsFed, Stands, Tail, Between, Within, Overlong, block}
+use Rattle.gw_mllp.specs.Stream.{Has, HasGiven, Held, IsFed, Stands, Tail, Overlong, block}
 use Rattle.gw_stream.specs.declared.counts.Counts.{Counts}
 use Rattle.gw_stream.specs.declared.fault.RunFault.{RunFault}
-use Rattle.gw_stream.specs.declared.fault.RunFault.TheVariants.{Memory, Line, Turns}
+use Rattle.gw_stream.specs.declared.fault.RunFault.TheVariants.{Memory, Line}
 use Rattle.gw_stream.specs.Counted.{nothing}
 use Rattle.gw_stream.specs.Reading.{ReadTimes}
 use Rattle.gw_stream.specs.Sent.{BeginsWith, SendsPart}
@@ -24,8 +24,8 @@ use Rattle.gw_crew.specs.Notes.{NoteSeen, WasFull, WasNothing, Added}
 use Rattle.gw_stream.proofs.Walking.{first_whole, has_few, long_enough, long_whole, stands_all}
 use Rattle.gw_crew.specs.Streams.{Reading, Spot}
 use Rattle.gw_crew.specs.own.Turns.{Adds, Waits, never, again, ComesOut, ComesNone}
-use Rattle.gw_crew.specs.Carries.{Rounds, no_round, sent_one, waited, none_left, full, Carried, Carries, write, read, ended, denied, LineFails, ReadInVain}
-use Rattle.gw_crew.specs.Carries.{memory, turns, line, Breaks, empty_handed, in_hand, GivesNext, GivesNone, Sent, Unsent, Unwritten, WriteFails}
+use Rattle.gw_crew.specs.Carries.{Rounds, no_round, sent_one, waited, none_left, full, Carried, Carries, write, denied, LineFails, ReadInVain}
+use Rattle.gw_crew.specs.Carries.{memory, line, Breaks, empty_handed, in_hand, GivesNext, GivesNone, Sent, Unsent, Unwritten, WriteFails}
 use Rattle.gw_crew.specs.Carries.{write_memory, write_line, Denies, no_memory, not_acknowledged, Progress, with_sent}
 
 -- ---- numbers

@@ -1,5 +1,5 @@
 -- A gate's reply is one of its event's row.
-use Rattle.std.proofs.Common.{◌≡◌, ◌+◌, ℕ, Bool, true, false, if◌then◌else◌, List, Option, None, Some, slice_get, length, refl}
+use Rattle.std.proofs.Common.{◌≡◌, ◌+◌, ℕ, true, if◌then◌else◌, List, Option, None, Some, slice_get, length, refl}
 use Rattle.std.specs.Prelude.{not, is_some, nat_le, ◌&&◌}
 use Rattle.std.proofs.lemmas.Bool.{and_parts, cond_both, false≢true}
 use Rattle.gw_gate.specs.Chapters.{is_pending}

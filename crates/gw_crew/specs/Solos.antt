@@ -1,5 +1,5 @@
 -- A gate for one thread.
-use Rattle.std.specs.Prelude.{◌≡◌, Bool, true, false, List, Option, None, Some, Result, Ok, Err, MatchResult}
+use Rattle.std.specs.Prelude.{◌≡◌, Bool, true, false, List, Option, None, Result, Ok, Err, MatchResult}
 use Rattle.std.specs.Option.{option_map}
 use Rattle.gw_gate.specs.Journal.{Journal, end}
 use Rattle.gw_gate.specs.Replies.{EventSeen, Looks, Arrives, Replied, ReplySeen, IsCurrent, IsStale}

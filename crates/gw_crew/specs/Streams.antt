@@ -1,5 +1,5 @@
 -- The blocks that come back on a line.
-use Rattle.std.specs.Prelude.{ℕ, ◌+◌, ◌*◌, ◌≤◌, List, ◌++◌, length, Option}
+use Rattle.std.specs.Prelude.{ℕ, ◌+◌, ◌*◌, ◌≤◌, List, length, Option}
 use Rattle.std.specs.Io.KnownBytes.{Consumes}
 use Rattle.gw_mllp.specs.Stream.{Held, Stands}
 use Rattle.gw_stream.specs.Reading.{ReadTimes}

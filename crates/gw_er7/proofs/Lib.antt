@@ -1,5 +1,6 @@
 pub mod Each
 pub mod Sequences
+pub mod Scans
 pub mod Cuts
 pub mod Separated
 pub mod Fixed

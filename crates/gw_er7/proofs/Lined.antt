@@ -1,19 +1,20 @@
 -- Lines, cut off one by one.
-use Rattle.std.proofs.Common.{◌≡◌, ℕ, ◌+◌, ◌<◌, true, List, [], ◌∷◌, length, take, drop, None, Some, refl, ap, ◌∙◌, arith}
-use Rattle.std.specs.List.{slice_split}
-use Rattle.memchr.specs.Find.{IsFirstByte, is_byte2}
+use Rattle.std.proofs.Common.{◌≡◌, ℕ, ◌+◌, ◌<◌, true, List, [], ◌∷◌, length, take, drop, None, refl, ap, sym, subst, ◌∙◌, arith}
+use Rattle.std.specs.List.{position_or_len, slice_split}
 use Rattle.gw_er7.specs.Content.{is_line_end, Line, placed, lines_from, first_bad, is_segment_line}
-use Rattle.gw_er7.proofs.Cuts.{cut_none_by, cut_some_by}
+use Rattle.gw_er7.proofs.Cuts.{cut_first, uncut}
 
-pub whole_none : (bytes : List ℕ) → IsFirstByte (is_byte2 13 10) bytes None → (at : ℕ) → lines_from at bytes ≡ placed at (bytes ∷ [] ∷ [])
-whole_none bytes h at = ap (placed at) (cut_none_by is_line_end bytes h) ∙ alone at bytes
-  where
-    alone : (at : ℕ) (bytes : List ℕ) → placed at (bytes ∷ []) ≡ placed at (bytes ∷ [] ∷ [])
-    alone at [] = refl
-    alone at (b ∷ bs) = refl
+module _ (bytes : List ℕ) (k : ℕ) (first : k ≡ position_or_len is_line_end bytes) where
+  pub whole_last : k ≡ length bytes → (at : ℕ) → lines_from at bytes ≡ placed at (bytes ∷ [] ∷ [])
+  whole_last all at = ap (placed at) (uncut is_line_end bytes k first all) ∙ alone at bytes
+    where
+      alone : (at : ℕ) (bytes : List ℕ) → placed at (bytes ∷ []) ≡ placed at (bytes ∷ [] ∷ [])
+      alone at [] = refl
+      alone at (b ∷ bs) = refl
 
-pub whole_some : (bytes : List ℕ) (k : ℕ) (behind : List ℕ) → IsFirstByte (is_byte2 13 10) bytes (Some k) → behind ≡ drop (k + 1) bytes → (at : ℕ) → lines_from at bytes ≡ placed at (take k bytes ∷ slice_split is_line_end behind)
-whole_some bytes k behind h e at = ap (placed at) (cut_some_by is_line_end bytes k behind h e).0
+  pub whole_cut : k < length bytes → {behind : List ℕ} → behind ≡ drop (k + 1) bytes → (at : ℕ)
+      → lines_from at bytes ≡ placed at (take k bytes ∷ slice_split is_line_end behind)
+  whole_cut lt {behind} e at = ap (placed at) (subst (λ (bs : List ℕ). slice_split is_line_end bytes ≡ take k bytes ∷ slice_split is_line_end bs) (sym e) (cut_first is_line_end bytes k first lt))
 
 -- a part that is not empty is a line
 pub placed_line : (at : ℕ) (part : List ℕ) (ps : List (List ℕ)) → 0 < length part → placed at (part ∷ ps) ≡ record { at = at; bytes = part } ∷ placed (at + length part + 1) ps

@@ -1,49 +1,15 @@
 -- The bytes of a value up to the first that ends it or doesn't stand for itself.
-use Rattle.std.proofs.Common.{◌≡◌, ℕ, ◌+◌, ◌-◌, ◌<◌, ◌≤◌, ◌⊎◌, inl, inr, Bool, true, false, List, ◌∷◌, ◌++◌, length, get_or, take, drop, Option, None, Some, refl, sym, ap, subst, ◌∙◌, arith}
+use Rattle.std.proofs.Common.{◌≡◌, ℕ, ◌+◌, ◌<◌, ◌≤◌, ◌⊎◌, inl, inr, Bool, true, false, List, ◌∷◌, ◌++◌, length, get_or, take, drop, Option, None, Some, refl, sym, ap, subst, ◌∙◌, arith}
 use Rattle.std.specs.Prelude.{not}
-use Rattle.std.specs.List.{list_any, position_or_len}
+use Rattle.std.specs.List.{position_or_len}
 use Rattle.std.proofs.lemmas.Bool.{cases_lt, or_parts, true≢false}
-use Rattle.std.proofs.lemmas.List.{take-append-drop, drop_more, get_or-take, get_or-drop, length-drop, get_or_at, get_or_append_left, length-take}
+use Rattle.std.proofs.lemmas.List.{take-append-drop, drop_more, get_or-take, get_or_at, get_or_append_left, length-take}
 use Rattle.std.proofs.lemmas.List.Elements.{All-from_get_or}
-use Rattle.std.proofs.lemmas.List.Folds.{list_any_at}
 use Rattle.std.proofs.lemmas.List.Sums.{prefix_len-le-length, position_or_len_is, fails_before_first, passes_at_first}
 use denote.Ref.{Bor}
 use Rattle.gw_er7.specs.declared.delimiters.Delimiters.{Delimiters}
 use Rattle.gw_er7.specs.own.Separators.{separators, is_separator, is_mark, IsPlainTo, IsClear, IsLastValue, IsNextValue, IsCut}
 use Rattle.gw_er7.proofs.Heads.{stops}
-
-module _ (d : Delimiters) (bytes : List ℕ) (n : ℕ) (plain : IsPlainTo d bytes n) where
-  pub plain_more : is_mark d (get_or bytes n 0) ≡ false → IsPlainTo d bytes (n + 1)
-  plain_more here i lt = elim (cases_lt i n) as (λ _. is_mark d (get_or bytes i 0) ≡ false) [
-    | inl l ↦ plain i l
-    | inr ge ↦ (let same : n ≡ i = omega (arith, lt, ge) in subst (λ k. is_mark d (get_or bytes k 0) ≡ false) same here)
-  ]
-
-  pub plain_to : (m : ℕ) → m ≡ n + 1 → is_mark d (get_or bytes n 0) ≡ false → IsPlainTo d bytes m
-  plain_to m e here = subst (λ (k : ℕ). IsPlainTo d bytes k) (sym e) (plain_more here)
-
-  pub marked_here : n < length bytes → is_mark d (get_or bytes n 0) ≡ true → n ≡ position_or_len (is_mark d) bytes
-  marked_here lt here = sym (position_or_len_is (is_mark d) bytes n 0 (omega (arith, lt)) plain (λ _. here))
-
-  pub plain_all : n ≤ length bytes → length bytes ≤ n → n ≡ position_or_len (is_mark d) bytes
-  plain_all le ge = sym (position_or_len_is (is_mark d) bytes n 0 le plain (λ lt. absurd (omega (arith, ge, lt))))
-
--- nor is one among those up to a later place
-module _ (d : Delimiters) (bytes : List ℕ) (at m : ℕ) (plain : IsPlainTo d bytes at) where
-  pub plain_on : list_any (is_mark d) (take (m - at) (drop at bytes)) ≡ false → m ≤ length bytes → IsPlainTo d bytes m
-  plain_on none le i lt = elim (cases_lt i at) as (λ _. is_mark d (get_or bytes i 0) ≡ false) [
-    | inl l ↦ plain i l
-    | inr ge ↦ absent (is_mark d (get_or bytes i 0)) refl ge
-  ]
-    where
-      there : at ≤ i → get_or (take (m - at) (drop at bytes)) (i - at) 0 ≡ get_or bytes i 0
-      there ge = get_or-take (m - at) (drop at bytes) (i - at) 0 (omega (arith, lt, ge)) ∙ get_or-drop at bytes (i - at) 0 ∙ ap (λ (k : ℕ). get_or bytes k 0) (omega (arith, ge))
-
-      absent : (b : Bool) → is_mark d (get_or bytes i 0) ≡ b → at ≤ i → b ≡ false
-      absent false e ge = refl
-      absent true e ge =
-          let short : i - at < length (take (m - at) (drop at bytes)) = omega (arith, lt, ge, le, length-take (m - at) (drop at bytes), length-drop at bytes) in
-          sym (list_any_at (is_mark d) (take (m - at) (drop at bytes)) (i - at) 0 short (ap (is_mark d) (there ge) ∙ e)) ∙ none
 
 -- what holds of the first bytes
 module _ (d : Delimiters) (bytes : List ℕ) (m : ℕ) (k : ℕ) (first : k ≡ position_or_len (is_mark d) (take m bytes)) where

@@ -1,5 +1,6 @@
 -- The program's own words: no public contract rests on them.
 pub mod Classes
+pub mod Scanned
 pub mod Separators
 pub mod Gathered
 pub mod Ordered

@@ -47,10 +47,8 @@ fn is_mark(classes: &ByteClasses, byte: u8) -> bool
     !matches!(classes.class(byte), Class::Text)
 }
 
-/// How many bytes are looked at before it is tested again how many are left.
-const STEP: usize = 4;
-
-// How many bytes stand before the first mark, where none stands among the first `from`.
+/// How many bytes stand before where a value ends, or its first byte that doesn't stand for itself, or how many there are where there is none.
+/// The first `from` bytes are none of these.
 #[inline(always)]
 fn plain_from(classes: &ByteClasses, bytes: &[u8], from: usize) -> usize
     requires within { from ≤ length bytes.now }
@@ -65,30 +63,6 @@ fn plain_from(classes: &ByteClasses, bytes: &[u8], from: usize) -> usize
         at += 1;
     }
     at
-}
-
-/// How many bytes stand before where a value ends, or its first byte that doesn't stand for itself, or how many there are where there is none.
-#[inline(always)]
-fn plain_len(classes: &ByteClasses, bytes: &[u8]) -> usize
-    ensures { result ≡ position_or_len (λ b. is_mark classes.now b) bytes.now }
-{
-    let mut at = 0;
-    while bytes.len() - at >= STEP {
-        if is_mark(classes, bytes[at]) {
-            return at;
-        }
-        if is_mark(classes, bytes[at + 1]) {
-            return at + 1;
-        }
-        if is_mark(classes, bytes[at + 2]) {
-            return at + 2;
-        }
-        if is_mark(classes, bytes[at + 3]) {
-            return at + 3;
-        }
-        at += STEP;
-    }
-    plain_from(classes, bytes, at)
 }
 
 /// How many bytes are tested together, where a segment is long.
@@ -133,23 +107,23 @@ fn plain_behind(classes: &ByteClasses, bytes: &[u8], from: usize) -> usize
     plain_from(classes, bytes, at)
 }
 
-/// As `plain_len`, of a value in a long segment.
+/// As `plain_from` from the first byte on, of a value in a long segment.
 #[cold]
 #[inline(never)]
 fn plain_far(classes: &ByteClasses, bytes: &[u8]) -> usize
     ensures { result ≡ position_or_len (λ b. is_mark classes.now b) bytes.now }
 {
     if bytes.len() < CHUNK {
-        return plain_len(classes, bytes);
+        return plain_from(classes, bytes, 0);
     }
-    let near = plain_len(classes, &bytes[..CHUNK]);
+    let near = plain_from(classes, &bytes[..CHUNK], 0);
     if near < CHUNK {
         return near;
     }
     plain_behind(classes, bytes, CHUNK)
 }
 
-/// As `plain_len`, of a value in a segment that is long or isn't.
+/// The same of a value in a segment that is long or isn't.
 #[inline(always)]
 fn plain_in(classes: &ByteClasses, bytes: &[u8], is_long: bool) -> usize
     ensures { result ≡ position_or_len (λ b. is_mark classes.now b) bytes.now }
@@ -157,7 +131,7 @@ fn plain_in(classes: &ByteClasses, bytes: &[u8], is_long: bool) -> usize
     if is_long {
         return plain_far(classes, bytes);
     }
-    plain_len(classes, bytes)
+    plain_from(classes, bytes, 0)
 }
 
 /// A raw value, the first bytes of which stand for themselves, and the separator and the bytes behind it where there is one.

@@ -1,14 +1,14 @@
 //! The lines of a message: the parts of its bytes between CR and LF that aren't empty.
 ghost use Rattle.std.specs.Prelude.{◌≡◌, ℕ, ◌+◌, ◌-◌, ◌^◌, ◌≤◌, ◌<◌, [], ◌∷◌, None, Some, length, MatchOption, MatchResult};
-ghost use Rattle.std.specs.List.{slice_split};
+ghost use Rattle.std.specs.List.{list_any, position_or_len, slice_split};
 ghost use Rattle.gw_er7.specs.Content.{is_line_end, placed, lines_from, Begins, first_bad};
 ghost use Rattle.gw_er7.specs.Faults.{Faulty, Passes};
 ghost use Rattle.gw_er7.specs.own.Gathered.{HasHeader};
+ghost use Rattle.gw_er7.specs.own.Scanned.{FailsTo};
 
 use crate::checks::{first_control, header_delimiters, is_header, is_segment_line};
 use crate::delimiters::Delimiters;
 use crate::fault::ReadFault;
-use memchr::memchr2;
 
 /// A line, its place, and the bytes behind its end.
 #[derive(Clone, Copy)]
@@ -18,6 +18,58 @@ pub(crate) struct NextLine<'a> {
     pub(crate) behind: &'a [u8],
 }
 
+/// How many bytes are tested together.
+const CHUNK: usize = 16;
+
+fn is_line_end(byte: u8) -> bool
+    ensures { result ≡ is_line_end byte }
+{
+    byte == b'\r' || byte == b'\n'
+}
+
+// Whether some byte ends a line. It looks at all of them, so that many are tested at a time.
+fn has_line_end(bytes: &[u8]) -> bool
+    ensures { result ≡ list_any is_line_end bytes.now }
+{
+    let mut found = false;
+    for byte in bytes {
+        found = found | is_line_end(*byte);
+    }
+    found
+}
+
+// How many bytes stand before the first line end, where none is among the first `from`.
+fn line_from(bytes: &[u8], from: usize) -> usize
+    requires within { from ≤ length bytes.now }
+    requires before { FailsTo is_line_end bytes.now from }
+    ensures first { result ≡ position_or_len is_line_end bytes.now }
+    ensures within { result ≤ length bytes.now }
+{
+    let mut at = from;
+    while at < bytes.len() {
+        if is_line_end(bytes[at]) {
+            return at;
+        }
+        at += 1;
+    }
+    at
+}
+
+/// How many bytes stand before the first line end, or how many there are where there is none.
+fn line_len(bytes: &[u8]) -> usize
+    ensures first { result ≡ position_or_len is_line_end bytes.now }
+    ensures within { result ≤ length bytes.now }
+{
+    let mut at = 0;
+    while bytes.len() - at >= CHUNK {
+        if has_line_end(&bytes[at..at + CHUNK]) {
+            return line_from(bytes, at);
+        }
+        at += CHUNK;
+    }
+    line_from(bytes, at)
+}
+
 /// The bytes up to the first line end, and those behind it.
 fn cut_line(bytes: &[u8]) -> (&[u8], &[u8])
     ensures whole { (at : ℕ) → lines_from at bytes.now ≡ placed at (result.0.now ∷ slice_split is_line_end result.1.now) }
@@ -25,10 +77,11 @@ fn cut_line(bytes: &[u8]) -> (&[u8], &[u8])
     ensures within { length result.0.now ≤ length bytes.now }
     ensures later { 0 < length result.1.now → length result.0.now + 1 + length result.1.now ≤ length bytes.now }
 {
-    match memchr2(b'\r', b'\n', bytes) {
-        None => (bytes, &[]),
-        Some(end) => (&bytes[..end], &bytes[end + 1..]),
+    let end = line_len(bytes);
+    if end == bytes.len() {
+        return (bytes, &[]);
     }
+    (&bytes[..end], &bytes[end + 1..])
 }
 
 /// The first line of bytes that begin at a place.

@@ -1,11 +1,11 @@
 -- The names of tables and of their columns.
-use Rattle.std.proofs.Common.{◌≡◌, ℕ, zero, suc, ◌+◌, ◌<◌, ◌≤◌, inl, inr, Bool, true, false, List, [], ◌∷◌, ◌++◌, length, take, get_or, map, Option, Some, None, ◌-◌, refl, sym, ap, ap₂, subst, ◌∙◌, bytes_eq, length-append, arith}
+use Rattle.std.proofs.Common.{◌≡◌, ℕ, zero, suc, ◌+◌, ◌<◌, ◌≤◌, inl, inr, Bool, true, false, List, [], ◌∷◌, ◌++◌, length, take, get_or, Option, Some, None, ◌-◌, refl, sym, ap, ap₂, subst, ◌∙◌, bytes_eq, length-append, arith}
 use Rattle.std.specs.Prelude.{◌==◌, ◌&&◌, not, nat_le, if◌then◌else◌, is_some}
 use Rattle.std.specs.List.{AllByRecursion, list_all, before_first, position_or_len}
 use Rattle.std.proofs.lemmas.List.{append_cancel_left}
 use Rattle.std.proofs.lemmas.Bool.Decides.{Decides-eqb}
 use Rattle.gw_lines.specs.Spelled.{is_name, is_name_byte, is_dot}
-use Rattle.gw_profile.proofs.Facts.{both, neither, not_false, no_clash, le_is, lt_is}
+use Rattle.gw_profile.proofs.Facts.{both, no_clash, le_is, lt_is}
 use Rattle.gw_maplang.specs.Among.{Among, Distinct}
 use Rattle.gw_maplang.specs.Shapes.{TableValue}
 use Rattle.gw_maplang.specs.Lawful.{table_names}

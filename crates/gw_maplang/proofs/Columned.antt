@@ -1,5 +1,5 @@
 -- Columns as they are built, one entry after another.
-use Rattle.std.proofs.Common.{◌≡◌, ℕ, zero, suc, ◌+◌, ◌<◌, ◌≤◌, reverse, get_or, inl, inr, Bool, true, false, List, [], ◌∷◌, ◌++◌, length, take, map, Option, Some, None, refl, sym, ap, subst, ◌∙◌, bytes_eq, append_assoc, arith}
+use Rattle.std.proofs.Common.{◌≡◌, ℕ, zero, suc, ◌+◌, ◌<◌, ◌≤◌, reverse, get_or, inl, inr, Bool, false, List, [], ◌∷◌, ◌++◌, length, take, map, Some, refl, sym, ap, subst, ◌∙◌, bytes_eq, append_assoc, arith}
 use Rattle.std.specs.Prelude.{slice_get}
 use Rattle.std.specs.List.{AllByRecursion}
 use Rattle.std.specs.Global.{Vec}
@@ -9,7 +9,7 @@ use Rattle.gw_profile.proofs.Facts.{false_not}
 use Rattle.gw_maplang.specs.Among.{Among, Distinct}
 use Rattle.gw_maplang.specs.Shapes.{Rows, row_of}
 use Rattle.gw_maplang.specs.Lawful.{firsts, table_names}
-use Rattle.gw_maplang.specs.Columns.{WideRows, WideTable, value_in, row_in, columns, all_columns}
+use Rattle.gw_maplang.specs.Columns.{WideRows, value_in, row_in, columns, all_columns}
 use Rattle.gw_maplang.specs.Fault.{is_among, wide_firsts}
 use Rattle.gw_maplang.specs.Seen.{items_all, path, table, wide_row, wide_table}
 use Rattle.gw_maplang.specs.own.Widths.{LawfulWide}

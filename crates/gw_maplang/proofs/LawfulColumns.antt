@@ -1,17 +1,16 @@
 -- The columns of lawful tables are lawful tables.
-use Rattle.std.proofs.Common.{◌≡◌, inl, inr, ℕ, zero, suc, ◌<◌, ◌≤◌, Bool, true, false, List, [], ◌∷◌, ◌++◌, length, map, Option, Some, None, refl, sym, ap, subst, ◌∙◌, arith}
-use Rattle.std.specs.Prelude.{◌==◌, ◌&&◌, ◌||◌, not, IfSome}
+use Rattle.std.proofs.Common.{◌≡◌, inl, inr, ℕ, zero, suc, ◌<◌, ◌≤◌, Bool, true, false, List, [], ◌∷◌, ◌++◌, length, map, Option, Some, None, refl, sym, ap, subst, arith}
+use Rattle.std.specs.Prelude.{◌==◌, ◌||◌, IfSome}
 use Rattle.std.specs.List.{AllByRecursion, list_all}
 use Rattle.std.specs.Option.{option_map}
 use Rattle.std.proofs.lemmas.Bool.Decides.{Decides-eqb}
 use Rattle.gw_lines.specs.Values.{is_value}
 use Rattle.gw_profile.proofs.Facts.{both, either}
-use Rattle.gw_maplang.specs.Among.{Among, Distinct}
-use Rattle.gw_maplang.specs.Shapes.{TableValue}
+use Rattle.gw_maplang.specs.Among.{Distinct}
 use Rattle.gw_maplang.specs.Lawful.{LawfulRow, LawfulTable, firsts}
 use Rattle.gw_maplang.specs.Columns.{WideRow, WideTable, widened, value_in, row_in, column, column_name, numbered, columns, all_columns, is_table_word}
 use Rattle.gw_maplang.specs.Fault.{fits, wide_firsts}
-use Rattle.gw_maplang.specs.own.Widths.{LawfulValues, LawfulWideRow, LawfulWide, LawfulWides}
+use Rattle.gw_maplang.specs.own.Widths.{LawfulValues, LawfulWideRow, LawfulWide}
 use Rattle.gw_maplang.proofs.ColumnNames.{own_word, number_word, AreNamed}
 
 value_lawful : (k : ℕ) (values : List (List ℕ)) → AllByRecursion (λ value. is_value value ≡ true) values → k < length values → is_value (value_in k values) ≡ true

@@ -1,5 +1,5 @@
 -- Whether one line stands above, by the number of lines.
-use Rattle.std.proofs.Common.{◌≡◌, ◌∙◌, ℕ, ◌≤◌, true, false, List, [], ◌∷◌, length, map, reverse, refl, arith}
+use Rattle.std.proofs.Common.{◌≡◌, ◌≤◌, true, false, List, [], ◌∷◌, length, map, refl, arith}
 use Rattle.std.proofs.lemmas.List.{length-reverse}
 use Rattle.gw_maplang.specs.declared.form.Line as declared
 use Rattle.gw_maplang.specs.Line.{Line}

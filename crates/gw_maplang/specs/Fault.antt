@@ -8,7 +8,7 @@ use Rattle.gw_lines.specs.Grammar.{Grammar}
 use Rattle.gw_maplang.specs.declared.fault.MapFault.{MapFault}
 use Rattle.gw_maplang.specs.declared.fault.MapFault.TheVariants.{Syntax, UnknownTable, BadConstant, Duplicate, TooDeep}
 use Rattle.gw_maplang.specs.declared.rule.LeafPlace.{LeafPlace}
-use Rattle.gw_maplang.specs.Shapes.{Current, Leaf, Const, Copy, Lookup, Date, Alternative, LeafValue, Condition, FieldCondition, Walk, Making, Copies, Firsts, Repeats, Builds, RuleValue, TableValue}
+use Rattle.gw_maplang.specs.Shapes.{Current, Leaf, Const, Copy, Lookup, Date, LeafValue, Condition, FieldCondition, Walk, Making, Copies, Firsts, Repeats, Builds, RuleValue, TableValue}
 use Rattle.gw_maplang.specs.Columns.{WideRow, WideTable, new_table, widened, all_columns, behind_first, is_known}
 use Rattle.gw_maplang.specs.Lawful.{least_field}
 use Rattle.gw_lines.specs.Spelled.{is_dot}

@@ -1,5 +1,5 @@
 -- What is found by the numbers of words.
-use Rattle.std.proofs.Common.{◌≡◌, ℕ, ◌+◌, List, [], ◌∷◌, ◌++◌, length, Option, Some, None, Bool, true, false, refl, sym, ap, ap₂, ◌∙◌, subst, arith, eq-eqb}
+use Rattle.std.proofs.Common.{◌≡◌, ℕ, List, [], ◌∷◌, ◌++◌, Option, Some, None, Bool, true, false, refl, sym, ap, ap₂, ◌∙◌, subst}
 use Rattle.std.specs.Prelude.{Err, not, nat_eq, is_some, ◌&&◌, ◌||◌, if◌then◌else◌, bytes_eq}
 use Rattle.std.specs.List.{list_any, position_from, position_or_len, AllZip, AllByRecursion}
 use Rattle.std.specs.Map.{lookup, keys_of}
@@ -7,11 +7,10 @@ use Rattle.std.specs.Global.{Vec}
 use Rattle.indexmap.specs.IndexMap.{insert_entry}
 use Rattle.indexmap.proofs.MapLemmas.{absent_from_lookup, insert_entry-absent}
 use Rattle.std.proofs.lemmas.Map.Made.{is_some-lookup}
-use Rattle.std.proofs.lemmas.Bool.{eqb-true}
 use Rattle.std.proofs.lemmas.Slice.Eq.{bytes_eq-Decides}
 use Rattle.gw_plan.specs.Senders.{Header, are_of}
 use Rattle.gw_plan.specs.Index.{Key, Slot, is_slot, is_key, at, Found, IsFound, IsKnown, number_if_some, number_for}
-use Rattle.gw_plan.proofs.Keys.{none_some, some_same, word_test, zip_map, zip_push, none_from, some_code, grown, kept_at, put_at}
+use Rattle.gw_plan.proofs.Keys.{none_some, word_test, zip_map, zip_push, none_from, some_code, grown, kept_at, put_at}
 
 abbrev pub Numbers : Type 0
 Numbers = (ℕ × ℕ) × (ℕ × ℕ)

@@ -1,6 +1,6 @@
 -- What an index of routes finds.
 use Rattle.std.proofs.Common.{◌≡◌, ℕ, ◌+◌, List, [], ◌∷◌, ◌++◌, length, Option, Some, None, Bool, true, false, refl, sym, ap, ◌∙◌, subst, arith, eq-eqb, ap₂}
-use Rattle.std.specs.Prelude.{Err, is_ok, is_some, not, ◌&&◌, ◌||◌, position, if◌then◌else◌, bytes_eq, nat_eq}
+use Rattle.std.specs.Prelude.{not, ◌||◌, position, if◌then◌else◌, bytes_eq, nat_eq}
 use Rattle.std.specs.List.{list_any, AllZip, AllByRecursion, position_or_len, position_from}
 use Rattle.std.specs.Global.{Vec}
 use Rattle.indexmap.specs.IndexSet.{insert_key}

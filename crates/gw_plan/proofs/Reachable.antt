@@ -14,7 +14,7 @@ use Rattle.gw_plan.specs.Shapes.{ReceiverValue, MapBetween, Leg, RouteValue, Pla
 use Rattle.gw_plan.specs.declared.form.Kind.{Kind}
 use Rattle.gw_plan.specs.declared.form.Kind.TheVariants.{Profile, Map}
 use Rattle.gw_plan.specs.Line.{Line, Begins, Widens, Receives, Versions, Processing, Opens, Routes, Delivers, form}
-use Rattle.gw_plan.specs.Draft.{Draft, nothing, closed, is_receiver, goes, receiver_number, map_named, profile_named, with_receiver, with_profile, with_route, widened, is_said, is_taken, with_map, with_leg, delivered, below, first, takes, plan_of}
+use Rattle.gw_plan.specs.Draft.{Draft, nothing, closed, is_receiver, goes, receiver_number, map_named, profile_named, with_receiver, with_profile, with_route, is_said, is_taken, with_map, with_leg, delivered, below, first, takes, plan_of}
 use Rattle.gw_plan.specs.Inner.{Inner, inner_profile, inner_map, with_inner_profile, with_inner_map, takes_part}
 use Rattle.gw_plan.specs.Whole.{Taken, inner, and_lines, lines_of_inner, takes_inner, takes_line, takes_words, takes_next, reads, begun, drafted, spelled, most_bytes, most_lines}
 use Rattle.gw_plan.specs.Within.{LegsWithin, RoutesWithin, IsWithin}

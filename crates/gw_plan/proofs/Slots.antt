@@ -1,6 +1,6 @@
 -- The slots of routes: what is looked up among them, and whether a route is excluded by others.
-use Rattle.std.proofs.Common.{◌≡◌, ℕ, ◌+◌, List, [], ◌∷◌, ◌++◌, map, length, Option, Some, None, Bool, true, false, refl, sym, ap, ap₂, ◌∙◌, subst, arith, eq-eqb}
-use Rattle.std.specs.Prelude.{not, nat_eq, ◌&&◌, ◌||◌, if◌then◌else◌, bytes_eq, is_none}
+use Rattle.std.proofs.Common.{◌≡◌, ℕ, ◌+◌, List, [], ◌∷◌, ◌++◌, map, length, Option, Some, None, Bool, true, false, refl, sym, ap, ap₂, ◌∙◌, arith, eq-eqb}
+use Rattle.std.specs.Prelude.{nat_eq, ◌&&◌, ◌||◌, if◌then◌else◌, bytes_eq, is_none}
 use Rattle.std.specs.List.{list_any, position_from}
 use Rattle.std.specs.Map.{lookup}
 use Rattle.std.proofs.lemmas.List.{append_assoc, append-nil}
@@ -9,7 +9,7 @@ use Rattle.std.proofs.lemmas.Slice.Eq.{bytes_eq-Decides}
 use Rattle.gw_plan.specs.declared.senders.HeaderField.{HeaderField}
 use Rattle.gw_plan.specs.declared.senders.HeaderField.TheVariants.{SendingApplication, SendingFacility, ReceivingApplication, ReceivingFacility, MessageProfile}
 use Rattle.gw_plan.specs.Senders.{Senders, Header, field_number, are_of, says, again}
-use Rattle.gw_plan.specs.Index.{Key, Slot, is_pair, is_key, ends, has_word, is_again, is_slot, slots_for, slots_of, numbered, slots_from, sooner, with_key}
+use Rattle.gw_plan.specs.Index.{Key, Slot, is_pair, is_key, ends, has_word, is_slot, slots_for, slots_of, numbered, slots_from, sooner, with_key}
 use Rattle.gw_plan.proofs.Soonest.{sooner_from, same_from}
 
 -- ---- bools

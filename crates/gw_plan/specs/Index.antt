@@ -1,5 +1,5 @@
 -- How a route is found by its code and event, and by its senders.
-use Rattle.std.specs.Prelude.{◌≡◌, ℕ, ◌+◌, true, false, Bool, not, ◌&&◌, ◌||◌, nat_eq, nat_lt, if◌then◌else◌, List, [], ◌∷◌, ◌++◌, map, length, Option, Some, None, bytes_eq, is_none, is_some, Result, Ok, Err}
+use Rattle.std.specs.Prelude.{◌≡◌, ℕ, ◌+◌, true, Bool, not, ◌&&◌, ◌||◌, nat_eq, nat_lt, if◌then◌else◌, List, [], ◌∷◌, ◌++◌, map, length, Option, Some, None, bytes_eq, is_none, is_some, Result, Ok, Err}
 use Rattle.std.specs.List.{list_any, position_from, AllZip, AllByRecursion}
 use Rattle.std.specs.Map.{lookup}
 use Rattle.std.specs.Global.{Vec}

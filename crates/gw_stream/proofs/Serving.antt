@@ -1,5 +1,5 @@
 -- A stream that is served under a plan, block by block.
-use Rattle.std.proofs.Common.{◌≡◌, ◌<◌, ◌+◌, ℕ, List, Option, Ok, Err, length, [], ◌∷◌, ◌++◌, arith, rules}
+use Rattle.std.proofs.Common.{◌≡◌, ◌<◌, ◌+◌, ℕ, List, Option, Err, length, [], ◌∷◌, ◌++◌, arith, rules}
 use Rattle.std.proofs.Common.{subst, sym, ap, ◌∙◌, refl, length-append, append-nil}
 use Rattle.std.proofs.lemmas.Grind.{flat_map-append}
 use Rattle.std.proofs.lemmas.List.{length_push}
@@ -7,7 +7,7 @@ use Rattle.gw_mllp.specs.Stream.{Tail}
 use Rattle.gw_plan.specs.Shapes.{PlanValue}
 use Rattle.gw_stream.specs.declared.counts.Counts.{Counts}
 use Rattle.gw_stream.specs.declared.fault.RunFault.{RunFault}
-use Rattle.gw_stream.specs.declared.fault.RunFault.TheVariants.{Memory, Read, Turns}
+use Rattle.gw_stream.specs.declared.fault.RunFault.TheVariants.{Read, Turns}
 use Rattle.gw_stream.specs.own.Prepared.{ServesNot, ServesOne, ServesSoFar, cut, nothing_sent}
 use Rattle.gw_stream.specs.Counted.{nothing, with_one, IsTotal}
 use Rattle.gw_stream.specs.Posts.{Known, Sends, SendsSome}

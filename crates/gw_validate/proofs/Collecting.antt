@@ -1,5 +1,5 @@
 -- All breaches of a message's segments, put together.
-use Rattle.std.proofs.Common.{◌≡◌, ℕ, zero, suc, ◌+◌, ◌<◌, ◌≤◌, ◌⊎◌, inl, inr, Bool, true, false, List, [], ◌∷◌, ◌++◌, Option, Some, None, refl, sym, ap, ◌∙◌, subst, arith, length, append-nil, append_assoc, map, take, drop, get_or, slice_get, unwrap_or}
+use Rattle.std.proofs.Common.{◌≡◌, ℕ, zero, suc, ◌+◌, ◌<◌, ◌≤◌, ◌⊎◌, inl, inr, Bool, true, false, List, [], ◌∷◌, ◌++◌, Some, refl, sym, ap, ◌∙◌, subst, arith, length, append-nil, append_assoc, map, take, drop, get_or, slice_get, unwrap_or}
 use Rattle.std.specs.Prelude.{cond}
 use Rattle.std.specs.List.{AllByRecursion, count_by}
 use Rattle.std.specs.Str.{bytes_eq}
@@ -19,7 +19,7 @@ use Rattle.gw_validate.specs.declared.breach.Breach.{Breach}
 use Rattle.gw_validate.specs.declared.fields.Spot.{Spot}
 use Rattle.gw_validate.specs.Breaches.{SegmentBreach}
 use Rattle.gw_validate.specs.Broken.{IsTreeOf, Assigns, Breaks, out_of_order, missing, in_segment, sequence, spot_of}
-use Rattle.gw_validate.specs.Conforming.{NamesFit, numbers, segment_at, named}
+use Rattle.gw_validate.specs.Conforming.{numbers, segment_at, named}
 use Rattle.gw_validate.specs.Every.{Before, Has, Rising, AreAll, AreBreaches, BreaksAt, IsNamed, place_of}
 use Rattle.gw_validate.specs.Trees.{Tree, assigned}
 use Rattle.gw_validate.specs.own.Finding.{found_key, Collects, Finds, IsAlone, breach_of, count_of}

@@ -18,8 +18,8 @@ use Rattle.gw_validate.specs.declared.occurrences.Found.{Found}
 use Rattle.gw_validate.specs.Trees.{Tree, IsTree, flatten, assigned}
 use Rattle.gw_validate.specs.own.Judging.{HasKept, IsShaped, IsFirst}
 use Rattle.gw_validate.specs.own.Occurring.{tree_of, IsOrdered}
-use Rattle.gw_validate.specs.own.Taking.{paired, shape_of}
-use Rattle.gw_validate.specs.own.Least.{ShapeRises, EachRises, Searched, BreachAt}
+use Rattle.gw_validate.specs.own.Taking.{paired}
+use Rattle.gw_validate.specs.own.Least.{EachRises, Searched, BreachAt}
 use Rattle.gw_validate.specs.Broken.{IsTreeOf, Breaks, sequence, spot_of, IsLeast}
 use Rattle.gw_validate.specs.Breaches.{NotAfter}
 use Rattle.gw_validate.specs.own.Finding.{IsAlone}

@@ -1,17 +1,17 @@
 -- All breaches, level by level.
-use Rattle.std.proofs.Common.{◌≡◌, ℕ, zero, suc, ◌+◌, ◌-◌, ◌<◌, ◌≤◌, ◌⊎◌, inl, inr, Bool, true, false, List, [], ◌∷◌, ◌++◌, Option, Some, None, refl, sym, ap, ◌∙◌, subst, arith, length}
+use Rattle.std.proofs.Common.{◌≡◌, ℕ, zero, suc, ◌-◌, ◌<◌, ◌≤◌, ◌⊎◌, inl, inr, Bool, true, false, List, [], ◌∷◌, ◌++◌, Option, Some, None, refl, sym, ap, ◌∙◌, subst, arith, length}
 use Rattle.std.proofs.lemmas.Bool.Decides.{eqb_tells}
 use Rattle.gw_er7.specs.Message.{Texts, text_of}
-use Rattle.gw_er7.specs.Presence.{CompAt, RepAt, FieldAt, IsLast}
+use Rattle.gw_er7.specs.Presence.{CompAt, RepAt, FieldAt}
 use Rattle.gw_profile.specs.Shapes.{SubValue, CompValue, FieldValue, ProfileValue}
 use Rattle.gw_profile.specs.Lengths.{len_count}
 use Rattle.gw_validate.specs.declared.fields.Spot.{Spot}
 use Rattle.gw_validate.specs.Breaches.{Counted, is_required, is_forbidden, is_long, is_unlisted, is_null, SubBreach, sub_absent, sub_forbidden, too_long, not_listed, CompBreach, comp_absent, comp_forbidden, in_sub, RepBreach, one_too_many, in_comp, RepsBreach, in_rep, FieldBreach, too_few, field_forbidden, in_reps}
 use Rattle.gw_validate.specs.Every.{Before}
-use Rattle.gw_validate.specs.own.Gathering.{Under, Only, Gathers, RepsTo, RepsGone}
+use Rattle.gw_validate.specs.own.Gathering.{Under, Only, Gathers, RepsTo}
 use Rattle.gw_validate.specs.own.Least.{CompRises, FieldRises, SubsBreach, CompsBreach, is_full}
-use Rattle.gw_validate.specs.own.Walk.{IsCount, IsShort, IsNextRep, IsNoRep}
-use Rattle.gw_validate.proofs.Leasts.{counted_once, count_once}
+use Rattle.gw_validate.specs.own.Walk.{IsCount, IsShort, IsNextRep}
+use Rattle.gw_validate.proofs.Leasts.{counted_once}
 use Rattle.gw_validate.proofs.Gathering.{gathers_join, gathers_under, gathers_only, gathers_nothing, gathers_in, only_before, any_above}
 
 true_false : true ≡ false → ⊥

@@ -13,7 +13,6 @@ use Rattle.gw_validate.specs.Conforming.{listed, names, NamesFit, numbers, segme
 use Rattle.gw_validate.specs.Trees.{Tree, assigned, AllMeet, MeetingTree}
 use Rattle.gw_validate.specs.own.Least.{Searched, BreachAt}
 use Rattle.gw_validate.specs.Broken.{IsTreeOf, Assigns, Breaks, out_of_order, missing, in_segment}
-use Rattle.gw_validate.proofs.Leasts.{not_after_self}
 use Rattle.gw_validate.proofs.Listed.{of_numbers, RisesFrom, numbers_rise}
 use Rattle.gw_validate.proofs.Flat.{tree_flat, assigned_flat}
 use Rattle.gw_validate.proofs.Mapped.{seq_back, seq_forth}

@@ -1,12 +1,11 @@
 -- Trees with one segment more in front: the segment that takes a name.
-use Rattle.std.proofs.Common.{◌≡◌, ℕ, zero, suc, ◌+◌, ◌-◌, ◌<◌, ◌≤◌, true, false, List, [], ◌∷◌, ◌++◌, Option, Some, None, refl, sym, ap, ◌∙◌, subst, arith, append_assoc, length, map}
+use Rattle.std.proofs.Common.{◌≡◌, ℕ, zero, suc, ◌-◌, true, List, [], ◌∷◌, ◌++◌, Option, Some, None, refl, sym, ap, ◌∙◌, subst, arith, append_assoc, length, map}
 use Rattle.std.specs.List.{AllByRecursion}
 use denote.Ref.{Bor}
 use Rattle.gw_profile.specs.declared.shape.FieldShape.{FieldShape}
 use Rattle.gw_profile.specs.Shapes.{Forest, nothing, segment, group, SegmentValue, GroupValue, FieldValue}
 use Rattle.gw_profile.specs.Deterministic.{Name, AtMost, Optional}
-use Rattle.gw_validate.specs.Cuts.{Cut}
-use Rattle.gw_validate.specs.Trees.{Tree, leaf, segments, groups, Trees, no_trees, trees, count_of, IsTree, AreTrees, assigned, assigned_all}
+use Rattle.gw_validate.specs.Trees.{Tree, leaf, segments, groups, Trees, no_trees, trees, count_of, IsTree, assigned, assigned_all}
 use Rattle.gw_validate.specs.own.Least.{ShapeRises, EachRises}
 use Rattle.gw_validate.specs.own.Residual.{less, append, has_room, seg, grp}
 use Rattle.gw_validate.specs.own.Taking.{Assigned, Takes, TakesAll, shape_of, paired, Suits}

@@ -1,11 +1,12 @@
 -- The values between the separators of a segment's fields, one after the other. The reader's own words.
-use Rattle.std.specs.Prelude.{◌≡◌, ℕ, ◌+◌, ◌<◌, ◌==◌, ◌||◌, Bool, false, true, if◌then◌else◌, List, [], ◌∷◌, ◌++◌, length, map, take, get_or, Option, MatchOption}
+use Rattle.std.specs.Prelude.{◌≡◌, ℕ, ◌+◌, ◌==◌, ◌||◌, Bool, false, true, if◌then◌else◌, List, [], ◌∷◌, ◌++◌, length, map, take, Option, MatchOption}
 use Rattle.std.specs.List.{All}
 use denote.Ref.{Bor}
 use Rattle.gw_er7.specs.declared.delimiters.Delimiters.{Delimiters}
 use Rattle.gw_er7.specs.Text.{canon, is_special}
 use Rattle.gw_er7.specs.Entries.{Entry}
 use Rattle.gw_er7.specs.View.{Held, entries_of, held}
+use Rattle.gw_er7.specs.own.Scanned.{FailsTo}
 use Rattle.gw_er7.specs.declared.fields.SegmentTexts.{SegmentTexts}
 
 -- those that cut fields, repetitions, components and subcomponents
@@ -22,7 +23,7 @@ is_mark d b = (is_special b || b == d.escape) || is_separator (separators d) b
 
 -- none of the first bytes does that
 abbrev pub IsPlainTo : Delimiters → List ℕ → ℕ → Type 0
-IsPlainTo d bytes count = (i : ℕ) → i < count → is_mark d (get_or bytes i 0) ≡ false
+IsPlainTo d bytes count = FailsTo (is_mark d) bytes count
 
 -- the numbers behind a separator: its own is one more, and the lower ones begin again
 abbrev pub next_numbers : List ℕ → List ℕ → ℕ → List ℕ

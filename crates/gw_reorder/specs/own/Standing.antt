@@ -1,5 +1,5 @@
 -- What a desk holds after what became due, was kept and was released.
-use Rattle.std.specs.Prelude.{◌≡◌, ◌≢◌, ℕ, ◌+◌, ◌<◌, ◌≤◌, List, Option, None, Some, get_or, map, take, length, All}
+use Rattle.std.specs.Prelude.{◌≡◌, ◌≢◌, ℕ, ◌+◌, ◌<◌, List, Option, None, Some, get_or, map, take, length, All}
 use Rattle.gw_reorder.specs.State.{DeskState}
 
 -- A desk stands where these numbers became due, these were released, and this is the value that was kept for a number, released or not

@@ -3,7 +3,6 @@ use Rattle.gw_er7.specs.Message.{SegmentValue, IsMessage}
 use Rattle.gw_er7.specs.Reading.{Reads}
 use Rattle.gw_er7.specs.Written.{written}
 use Rattle.gw_er7.proofs.Again.{reads_again}
-use Rattle.gw_ack.specs.declared.receipt.Ack.{Ack}
 use Rattle.gw_ack.specs.Answers.{ack_of, acknowledged, msh, reason, said_by}
 use Rattle.gw_ack.proofs.Lines.{message_is, written-append}
 use Rattle.gw_ack.proofs.Says.{few, says}

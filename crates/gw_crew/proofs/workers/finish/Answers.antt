@@ -1,6 +1,6 @@
-use Rattle.std.proofs.Common.{◌∙◌, IfOk, None, sym, append-nil}
+use Rattle.std.proofs.Common.{◌∙◌, None, sym, append-nil}
 use Rattle.std.proofs.lemmas.Bool.{not-false, not-true}
-use Rattle.gw_crew.specs.own.Turns.{Adds, Finishes, is_stopped}
+use Rattle.gw_crew.specs.own.Turns.{Finishes, is_stopped}
 use Rattle.gw_crew.proofs.Working.{adds}
 use Rattle.gw_crew.proofs.workers.finish.Goals as goal
 

@@ -2,7 +2,7 @@ use Rattle.std.proofs.Common.{◌≡◌, ◌+◌, ◌-◌, false, take, drop, su
 use Rattle.std.specs.List.{list_any}
 use Rattle.gw_er7.specs.declared.delimiters.Delimiters.{Delimiters}
 use Rattle.gw_er7.specs.own.Separators.{is_mark}
-use Rattle.gw_er7.proofs.Marks.{plain_on}
+use Rattle.gw_er7.proofs.Scans.{fails_on}
 use Rattle.gw_er7.proofs.fields.plain_behind.Goals as goal
 
 pub loop-at-preserved : goal.loop-at-preserved
@@ -11,4 +11,4 @@ loop-at-preserved c =
     let bytes = c.args.bytes.now in
     let at = c.loop-at.at in
     let none = subst (λ (d : Delimiters). list_any (is_mark d) (take (at + 32 - at) (drop at bytes)) ≡ false) c.delimiters-delimiters.ensures (sym c.if-has_mark.ensures) in
-    record { within = omega arith; plain = plain_on d bytes at (at + 32) c.loop-at.invariant.plain none (omega arith) }
+    record { within = omega arith; plain = fails_on (is_mark d) bytes at (at + 32) c.loop-at.invariant.plain none (omega arith) }

@@ -1,5 +1,5 @@
 use Rattle.std.proofs.Common.{[]}
-use Rattle.gw_stream.specs.Exchanges.{begun, unanswered}
+use Rattle.gw_stream.specs.Exchanges.{unanswered}
 use Rattle.gw_stream.proofs.Posting.{err_gives}
 use Rattle.gw_stream.proofs.exchange.settle.Goals as goal
 

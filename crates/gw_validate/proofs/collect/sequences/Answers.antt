@@ -1,5 +1,4 @@
 use Rattle.std.proofs.Common.{arith, length, ◌<◌}
-use Rattle.gw_validate.proofs.Counting.{small_named}
 use Rattle.gw_validate.proofs.Collecting.{counts_more, length_more, sequences_more}
 use Rattle.gw_validate.proofs.collect.sequences.Goals as goal
 

@@ -1,4 +1,4 @@
-use Rattle.std.proofs.Common.{◌+◌, ◌∷◌, [], arith}
+use Rattle.std.proofs.Common.{◌∷◌, [], arith}
 use Rattle.std.specs.FinMap as texts
 use Rattle.gw_er7.specs.Message.{numbers}
 use Rattle.gw_validate.proofs.Walks.{start_end, before_more}

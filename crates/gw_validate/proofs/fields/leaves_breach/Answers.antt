@@ -1,5 +1,5 @@
 use Rattle.gw_profile.specs.Seen.{sub, profile_value}
-use Rattle.std.proofs.Common.{◌+◌, ◌∷◌, [], sym, arith, rules}
+use Rattle.std.proofs.Common.{◌∷◌, [], sym, arith, rules}
 use Rattle.std.specs.FinMap as texts
 use Rattle.gw_validate.proofs.Leasts.{only_least}
 use Rattle.gw_validate.proofs.Nexts.{comp_within, comp_is, of_comp}

@@ -1,4 +1,3 @@
-use Rattle.gw_er7.specs.Presence.{RepAt}
 use Rattle.gw_profile.specs.Seen.{field, profile_value}
 use Rattle.std.proofs.Common.{◌+◌, ◌-◌, ◌^◌, [], ◌∷◌}
 use Rattle.std.specs.FinMap as texts

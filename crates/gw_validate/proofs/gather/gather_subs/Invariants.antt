@@ -1,7 +1,6 @@
 use Rattle.gw_profile.specs.Seen.{sub, profile_value}
 use Rattle.std.proofs.Common.{take, drop, map, ◌+◌, [], ◌∷◌}
 use Rattle.std.specs.FinMap as texts
-use Rattle.gw_er7.specs.Message.{text_of}
 use Rattle.gw_validate.specs.own.Gathering.{Gathers, Under}
 use Rattle.gw_validate.specs.own.Least.{SubsBreach}
 use Rattle.gw_validate.specs.own.Walk.{IsWalking}

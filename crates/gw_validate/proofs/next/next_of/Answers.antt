@@ -1,8 +1,5 @@
-use Rattle.std.proofs.Common.{ap, ◌∙◌, take}
-use Rattle.std.proofs.lemmas.List.{take_all}
 use Rattle.std.proofs.lemmas.Result.{IfOk-weaker}
 use Rattle.gw_profile.specs.Deterministic.{NoName}
-use Rattle.gw_profile.specs.Seen.{forest}
 use Rattle.gw_profile.specs.Shapes.{nothing}
 use Rattle.gw_validate.proofs.Going.{none_next, are_next, taken_one, taken_none, at_last}
 use Rattle.gw_validate.proofs.next.next_of.Goals as goal

@@ -1,4 +1,4 @@
-use Rattle.std.proofs.Common.{◌<◌, length, map, get_or, arith}
+use Rattle.std.proofs.Common.{◌<◌, length, get_or, arith}
 use Rattle.gw_profile.specs.Seen.{profile_value}
 use Rattle.gw_validate.specs.own.Least.{ShapeRises, segment_key}
 use Rattle.gw_validate.specs.own.Taking.{shape_of}

@@ -1,5 +1,4 @@
-use Rattle.std.proofs.Common.{◌≡◌, ◌<◌, ◌∙◌, sym, ap, subst, List, length, map, get_or}
-use Rattle.std.proofs.lemmas.Result.{IfOk-from_err}
+use Rattle.std.proofs.Common.{◌≡◌, ◌∙◌, ap, subst, List, map, get_or}
 use Rattle.gw_profile.specs.declared.node.Node.{Node}
 use Rattle.gw_profile.specs.Seen.{forest, profile_value}
 use Rattle.gw_validate.specs.declared.walk.Answer.TheVariants as answer
@@ -8,7 +7,7 @@ use Rattle.gw_validate.specs.Conforming.{named, numbers}
 use Rattle.gw_validate.specs.Broken.{sequence}
 use Rattle.gw_validate.specs.own.Least.{segment_key}
 use Rattle.gw_validate.specs.declared.fields.Spot.{Spot}
-use Rattle.gw_validate.proofs.Deciding.{shaped, order_judged, order_within, missing_judged}
+use Rattle.gw_validate.proofs.Deciding.{shaped, order_judged, missing_judged}
 use Rattle.gw_profile.specs.WellFormed.{table_names}
 use Rattle.gw_validate.proofs.Lawful.{each_rises}
 use Rattle.gw_validate.proofs.verdict.place_segments.Goals as goal

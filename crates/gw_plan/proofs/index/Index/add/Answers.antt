@@ -1,4 +1,3 @@
-use Rattle.gw_plan.specs.Index.{AreFound}
 use Rattle.gw_plan.proofs.Finding.{is_there, is_new, put_there}
 use Rattle.gw_plan.proofs.index.Index.add.Goals as goal
 

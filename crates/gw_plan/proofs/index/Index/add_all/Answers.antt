@@ -1,8 +1,8 @@
-use Rattle.std.proofs.Common.{◌≡◌, ◌∙◌, ◌≤◌, ◌+◌, ◌++◌, sym, ap, subst, arith, map, length, List, ℕ}
+use Rattle.std.proofs.Common.{◌≡◌, ◌≤◌, ◌+◌, ◌++◌, sym, subst, arith, map, length}
 use Rattle.std.specs.Prelude.{not, false, true}
 use Rattle.std.proofs.lemmas.List.{length-map}
 use Rattle.gw_plan.specs.Senders.{again}
-use Rattle.gw_plan.specs.Index.{Slot, AreFound, numbered, slots_from}
+use Rattle.gw_plan.specs.Index.{AreFound, numbered}
 use Rattle.gw_plan.specs.Seen.{now_all}
 use Rattle.gw_plan.proofs.Slots.{taken_by}
 use Rattle.gw_plan.proofs.Adding.{Adding, now_take, now_drop, refused, one_more, none_again, all_found}

@@ -1,5 +1,5 @@
 use Rattle.std.proofs.Common.{◌∙◌, sym, ap}
-use Rattle.gw_plan.specs.Index.{number_if_some, header}
+use Rattle.gw_plan.specs.Index.{number_if_some}
 use Rattle.gw_plan.proofs.Keys.{placed}
 use Rattle.gw_plan.proofs.Finding.{finds_no_code, finds_no_event, finds}
 use Rattle.gw_plan.proofs.index.Index.find.Goals as goal

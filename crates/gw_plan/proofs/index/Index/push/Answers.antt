@@ -1,4 +1,4 @@
-use Rattle.std.proofs.Common.{◌≡◌, ◌∙◌, sym, ap, subst, length, List, ℕ, Option, Bool, true, false, []}
+use Rattle.std.proofs.Common.{◌≡◌, sym, ap, subst, length, List, Option, Bool, true, false, []}
 use Rattle.std.specs.Prelude.{IfOk}
 use Rattle.std.specs.Option.{option_map}
 use Rattle.gw_plan.specs.Senders.{Senders}

@@ -1,4 +1,4 @@
-use Rattle.std.proofs.Common.{sym, ap, subst, ◌∙◌, [], ◌∷◌, ◌++◌, map, List}
+use Rattle.std.proofs.Common.{sym, subst, [], ◌∷◌, ◌++◌, map}
 use Rattle.std.specs.Arc.{arc_value}
 use Rattle.gw_plan.specs.Held.{RouteHeld}
 use Rattle.gw_plan.specs.Index.{Indexes}
