@@ -1,15 +1,14 @@
 -- Values that lie among the bytes that were taken in.
-use Rattle.std.proofs.Common.{◌≡◌, ℕ, ◌+◌, ◌-◌, ◌<◌, ◌≤◌, ◌⊎◌, inl, inr, List, [], ◌∷◌, ◌++◌, length, take, drop, Option, None, Some, sym, ap, subst, ◌∙◌, append_assoc, append-nil, arith}
+use Rattle.std.proofs.Common.{◌≡◌, ℕ, ◌+◌, ◌-◌, ◌<◌, ◌≤◌, ◌⊎◌, inl, inr, List, [], ◌∷◌, ◌++◌, length, take, drop, sym, ap, subst, ◌∙◌, append_assoc, append-nil, arith}
 use Rattle.std.specs.List.{position_or_len}
 use Rattle.std.proofs.lemmas.Bool.{cases_lt}
 use Rattle.std.proofs.lemmas.List.{map-append, length-append, length-take, length-drop, take-append-drop, take_all, drop_all}
 use Rattle.std.proofs.Math.Seq.{drop-append_seam, take-append_seam}
-use denote.Ref.{Bor}
 use Rattle.gw_er7.specs.declared.delimiters.Delimiters.{Delimiters}
 use Rattle.gw_er7.specs.declared.spans.TextSpan.{TextSpan}
 use Rattle.gw_er7.specs.Text.{canon}
 use Rattle.gw_er7.specs.View.{Held, held_at, held}
-use Rattle.gw_er7.specs.own.Separators.{Lies, IsCut}
+use Rattle.gw_er7.specs.own.Separators.{Lies}
 use Rattle.gw_er7.proofs.Heads.{stops, canon-head}
 
 -- it lies there still, where others are put behind
@@ -60,10 +59,6 @@ lies_first bytes at part value behind e l = record {
   is = l.is ∙ ap (λ (x : List ℕ). l.before ++ (x ++ l.after)) e ∙ ap (λ (x : List ℕ). l.before ++ x) (append_assoc value behind l.after);
   long = l.long;
 }
-
-pub lies_value : (ts bytes : List ℕ) (at : ℕ) (part value : List ℕ) (behind : Option (ℕ × Bor (List ℕ))) → IsCut ts part value behind → Lies bytes at part → Lies bytes at value
-lies_value ts bytes at part value None cut l = lies_first bytes at part value [] (cut.whole ∙ sym (append-nil value)) l
-lies_value ts bytes at part value (Some b) cut l = lies_first bytes at part value (b.0 ∷ b.1.now) cut.whole l
 
 pub lies_behind : (bytes : List ℕ) (at : ℕ) (part value : List ℕ) (b : ℕ) (behind : List ℕ) → part ≡ value ++ b ∷ behind → Lies bytes at part → Lies bytes (at + (length value + 1)) behind
 lies_behind bytes at part value b behind e l = record {

@@ -1,10 +1,10 @@
 //! The texts of a segment's fields.
-ghost use Rattle.std.specs.Prelude.{◌≡◌, ◌==◌, ◌||◌, ◌+◌, ◌<◌, ◌≤◌, ◌^◌, ◌++◌, ◌-◌, true, length, position, OnOk, IfOk};
+ghost use Rattle.std.specs.Prelude.{◌≡◌, ◌==◌, ◌||◌, ◌+◌, ◌<◌, ◌≤◌, ◌^◌, ◌++◌, ◌-◌, true, false, get_or, length, position, OnOk, IfOk};
 ghost use Rattle.std.specs.List.{list_any, position_or_len};
 ghost use Rattle.gw_er7.specs.Message.{numbers};
 ghost use Rattle.gw_er7.specs.Entries.{fields};
 ghost use Rattle.gw_er7.specs.Text.{is_special};
-ghost use Rattle.gw_er7.specs.own.Separators.{separators, is_separator, is_mark, next_numbers, value_at, bytes_of, held_in, taken_by, Keeps, IsPlainTo, IsCut, Lies};
+ghost use Rattle.gw_er7.specs.own.Separators.{separators, is_separator, is_mark, next_numbers, value_at, bytes_of, held_in, taken_by, Keeps, IsPlainTo, IsCut, Lies, TakesOne};
 ghost use Rattle.gw_er7.specs.View.{AreInside};
 
 use crate::classes::{ByteClasses, Class};
@@ -132,39 +132,6 @@ fn plain_in(classes: &ByteClasses, bytes: &[u8], is_long: bool) -> usize
         return plain_far(classes, bytes);
     }
     plain_from(classes, bytes, 0)
-}
-
-/// A raw value, the first bytes of which stand for themselves, and the separator and the bytes behind it where there is one.
-#[derive(Clone, Copy)]
-struct Cut<'a> {
-    raw: &'a [u8],
-    plain: usize,
-    behind: Option<(u8, &'a [u8])>,
-}
-
-/// The value with which bytes begin: most are looked through once, up to the separator behind them.
-#[inline(always)]
-fn cut_value<'a>(classes: &ByteClasses, bytes: &'a [u8], is_long: bool) -> Cut<'a>
-    ensures cut { IsCut (separators classes.now) bytes.now result.raw.now result.behind }
-    ensures plain { result.plain ≡ position_or_len (λ b. is_special b || b == classes.now.escape) result.raw.now }
-{
-    let plain = plain_in(classes, bytes, is_long);
-    if plain >= bytes.len() {
-        return Cut {
-            raw: bytes,
-            plain,
-            behind: None,
-        };
-    }
-    if is_separator(classes, bytes[plain]) {
-        return Cut {
-            raw: &bytes[..plain],
-            plain,
-            behind: Some((bytes[plain], &bytes[plain + 1..])),
-        };
-    }
-    let (raw, behind) = cut_at_separator(classes, bytes);
-    Cut { raw, plain, behind }
 }
 
 /// The place behind a separator: its own number is one more, and the lower ones begin again.
@@ -307,6 +274,35 @@ fn push_value(
     Ok(())
 }
 
+/// Reads the value with which bytes begin, where it is the last or doesn't stand for itself. Gives the separator and the bytes behind it, where there is one.
+#[cold]
+#[inline(never)]
+fn take_other<'a>(
+    taken: &mut SegmentTexts<'_>,
+    classes: &ByteClasses,
+    place: Place,
+    at: usize,
+    bytes: &'a [u8],
+    plain: usize,
+) -> Result<Option<(u8, &'a [u8])>, AllocError>
+    requires inside { AreInside (bytes_of taken.old) taken.old.spans }
+    requires lies { Lies taken.old.content.now at bytes.now }
+    requires plain { plain ≡ position_or_len (λ b. is_mark classes.now b) bytes.now }
+    requires other { plain < length bytes.now → is_separator (separators classes.now) (get_or bytes.now plain 0) ≡ false }
+    ensures inside { OnOk result (AreInside (bytes_of taken.new) taken.new.spans) }
+    ensures content { OnOk result (taken.new.content.now ≡ taken.old.content.now) }
+    ensures kept { OnOk result (Keeps taken.old taken.new) }
+    ensures entries { IfOk result (TakesOne classes.now (numbers place) bytes.now (taken_by taken.old) (taken_by taken.new)) }
+{
+    if plain >= bytes.len() {
+        push_value(taken, classes, place, at, bytes, plain)?;
+        return Ok(None);
+    }
+    let (raw, behind) = cut_at_separator(classes, bytes);
+    push_value(taken, classes, place, at, raw, plain)?;
+    Ok(behind)
+}
+
 /// Takes in the fields of a segment that is long or isn't.
 #[inline(always)]
 fn take_values(
@@ -334,13 +330,19 @@ fn take_values(
     let mut here = at;
     let mut rest = bytes;
     loop {
-        let cut = cut_value(classes, rest, is_long);
-        push_value(taken, classes, place, here, cut.raw, cut.plain)?;
-        let Some((separator, later)) = cut.behind else {
+        let plain = plain_in(classes, rest, is_long);
+        if plain < rest.len() && is_separator(classes, rest[plain]) {
+            push_value(taken, classes, place, here, &rest[..plain], plain)?;
+            place = next_place(classes, place, rest[plain]);
+            here += plain + 1;
+            rest = &rest[plain + 1..];
+            continue;
+        }
+        let Some((separator, later)) = take_other(taken, classes, place, here, rest, plain)? else {
             return Ok(());
         };
         place = next_place(classes, place, separator);
-        here += cut.raw.len() + 1;
+        here += rest.len() - later.len();
         rest = later;
     }
 }

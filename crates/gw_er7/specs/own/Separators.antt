@@ -76,3 +76,9 @@ pub record IsNextValue (ts bytes value : List ℕ) (separator : ℕ) (behind : L
 -- the value that is cut off, and the separator and the bytes behind it, where one stands there
 abbrev pub IsCut : List ℕ → List ℕ → List ℕ → Option (ℕ × Bor (List ℕ)) → Type 0
 IsCut ts bytes value behind = MatchOption behind (IsLastValue ts bytes value) (λ b. IsNextValue ts bytes value b.0 b.1.now)
+
+-- the value with which bytes begin was read, whatever its raw bytes
+pub record TakesOne (d : Delimiters) (ns bytes : List ℕ) (old new : List Entry) (behind : Option (ℕ × Bor (List ℕ))) : Type 0 where
+  pub raw : List ℕ
+  pub cut : IsCut (separators d) bytes raw behind
+  pub read : new ≡ old ++ value_at d ns raw

@@ -6,8 +6,8 @@ use Rattle.gw_er7.specs.View.{AreInside}
 use Rattle.gw_er7.proofs.Separated.{rest}
 use Rattle.gw_er7.proofs.fields.take_values.Given as goal
 
-abbrev pub invariant-loop-separator : goal.invariant-loop-separator
-invariant-loop-separator l = record {
+abbrev pub invariant-loop-rest : goal.invariant-loop-rest
+invariant-loop-rest l = record {
   inside : AreInside (bytes_of l.taken) l.taken.spans;
   content : l.taken.content.now ≡ l.fn.taken.content.now;
   kept : Keeps l.fn.taken l.taken;
@@ -19,5 +19,5 @@ invariant-loop-separator l = record {
   sub : l.place.sub + length l.rest ≤ length l.fn.bytes + 3;
 }
 
-abbrev pub decreases-loop-separator : goal.decreases-loop-separator
-decreases-loop-separator l = length l.rest
+abbrev pub decreases-loop-rest : goal.decreases-loop-rest
+decreases-loop-rest l = length l.rest
