@@ -147,27 +147,16 @@ fn next_place(classes: &ByteClasses, place: Place, separator: u8) -> Place
     ensures comp { result.comp ≤ place.comp + 1 }
     ensures sub { result.sub ≤ place.sub + 1 }
 {
-    let first = Place { sub: 1, ..place };
-    match classes.class(separator) {
-        Class::Field => Place {
-            field: place.field + 1,
-            rep: 1,
-            comp: 1,
-            sub: 1,
-        },
-        Class::Repetition => Place {
-            rep: place.rep + 1,
-            comp: 1,
-            ..first
-        },
-        Class::Component => Place {
-            comp: place.comp + 1,
-            ..first
-        },
-        _ => Place {
-            sub: place.sub + 1,
-            ..place
-        },
+    // (sums in place of cases: which separator comes next is hard to predict)
+    let class = classes.class(separator);
+    let field = matches!(class, Class::Field);
+    let rep = field | matches!(class, Class::Repetition);
+    let comp = rep | matches!(class, Class::Component);
+    Place {
+        field: place.field + field as usize,
+        rep: if field { 1 } else { place.rep + rep as usize },
+        comp: if rep { 1 } else { place.comp + comp as usize },
+        sub: if comp { 1 } else { place.sub + 1 },
     }
 }
 
@@ -182,7 +171,7 @@ pub(crate) struct SegmentTexts<'a> {
 impl<'a> SegmentTexts<'a> {
     ghost use Rattle.std.specs.Prelude.{[]};
 
-    /// No text, with capacity for the usual number of texts in the message bytes: one for every five bytes.
+    /// No text, with capacity for the usual number of texts in the message bytes: one for every six bytes.
     pub(crate) fn with_room(
         alloc: Global,
         content: &'a [u8],
@@ -191,7 +180,7 @@ impl<'a> SegmentTexts<'a> {
         ensures none { IfOk result (λ t. held_in t ≡ []) }
         ensures content { IfOk result (λ t. t.content.now ≡ content.now) }
     {
-        let spans = MessageSpans::with_room(alloc, content.len() / 5)?;
+        let spans = MessageSpans::with_room(alloc, content.len() / 6)?;
         Ok(SegmentTexts {
             spans,
             content,
@@ -338,7 +327,20 @@ fn take_values(
             rest = &rest[plain + 1..];
             continue;
         }
-        let Some((separator, later)) = take_other(taken, classes, place, here, rest, plain)? else {
+        // (put together anew, so that the numbers stay in registers)
+        let Place {
+            field,
+            rep,
+            comp,
+            sub,
+        } = place;
+        let there = Place {
+            field,
+            rep,
+            comp,
+            sub,
+        };
+        let Some((separator, later)) = take_other(taken, classes, there, here, rest, plain)? else {
             return Ok(());
         };
         place = next_place(classes, place, separator);
