@@ -1,5 +1,6 @@
-//! Where a table is looked for first: most names differ in their last bytes.
-ghost use Rattle.std.specs.Prelude.{◌≡◌, map, Some, IfSome};
+//! Where a table, and a value of a table, is looked for first: most names differ in their last bytes, and most values in their ends.
+ghost use Rattle.std.specs.Prelude.{◌≡◌, ◌<◌, map, true, Some, IfSome};
+ghost use Rattle.gw_profile.specs.Fault.{is_among};
 ghost use Rattle.gw_profile.specs.Seen.{table};
 ghost use Rattle.gw_profile.specs.Value.{table_of};
 
@@ -52,5 +53,52 @@ impl NearTables {
             return None;
         }
         Some(found)
+    }
+}
+
+/// For the length of a value and its ends, the number of a value that may be the same. A number that is wrong costs time alone.
+#[derive(Clone, Copy)]
+pub(crate) struct NearValues {
+    numbers: [u8; 64],
+}
+
+// The length of a value, its first byte and its last, in one.
+#[inline(always)]
+fn ends(value: &[u8]) -> usize
+    ensures { result < 64 }
+{
+    let len = value.len();
+    if len == 0 {
+        return 0;
+    }
+    let first = value[0].wrapping_mul(3);
+    let last = value[len - 1].wrapping_mul(2);
+    let spread = (len % 16) as u8 * 16;
+    (first.wrapping_add(last).wrapping_add(spread) % 64) as usize
+}
+
+impl NearValues {
+    /// Where these values lie.
+    pub(crate) fn of(values: &[Vec<u8>]) -> NearValues {
+        let mut numbers = [0u8; 64];
+        for number in 0..256usize {
+            if number >= values.len() {
+                return NearValues { numbers };
+            }
+            numbers[ends(&values[number])] = number as u8;
+        }
+        NearValues { numbers }
+    }
+
+    /// Whether this is the value that lies where it is looked for first.
+    #[inline(always)]
+    pub(crate) fn has(&self, values: &[Vec<u8>], value: &[u8]) -> bool
+        ensures { result ≡ true → is_among value.now (map (λ v. v.items) values.now) ≡ true }
+    {
+        let number = self.numbers[ends(value)] as usize;
+        if number >= values.len() {
+            return false;
+        }
+        same_bytes(&values[number], value)
     }
 }

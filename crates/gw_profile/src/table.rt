@@ -3,17 +3,16 @@ ghost use Rattle.std.specs.Prelude.{◌≡◌, ◌++◌, ◌∷◌, [], map, not
 ghost use Rattle.gw_profile.specs.Fault.{is_among, has_repeat};
 ghost use Rattle.gw_profile.specs.Seen.{now_all};
 
+use crate::near::NearValues;
 use indexmap::IndexSet;
 use std::alloc::{AllocError, Global};
 use std::marker::Model;
 
-/// The most values that are compared one by one: a hash of the value takes longer.
-const FEW: usize = 12;
-
-/// The values of a table, in order and each once. A value is looked up by its hash, where there are more than a few.
+/// The values of a table, in order and each once. A value is looked up where it most likely lies, then by its hash.
 #[derive(Drop)]
 pub struct Table {
     pub(crate) values: IndexSet<Vec<u8>>,
+    near: NearValues,
 }
 
 impl Model for Table {
@@ -34,18 +33,6 @@ fn put(alloc: Global, values: &mut IndexSet<Vec<u8>>, value: &[u8]) -> Result<bo
     Ok(new)
 }
 
-// Whether this is one of the values, each compared.
-fn is_one_of(values: &[Vec<u8>], value: &[u8]) -> bool
-    ensures { result ≡ is_among value.now (map (λ v. v.items) values.now) }
-{
-    for other in values {
-        if value == other.as_slice() {
-            return true;
-        }
-    }
-    false
-}
-
 impl Table {
     /// The table of these values; `None` if one occurs twice.
     pub(crate) fn of(alloc: Global, values: &[&[u8]]) -> Result<Option<Table>, AllocError>
@@ -57,16 +44,26 @@ impl Table {
                 return Ok(None);
             }
         }
-        Ok(Some(Table { values: held }))
+        let near = NearValues::of(held.as_slice());
+        Ok(Some(Table { values: held, near }))
     }
 
     /// Whether this is one of the values. It takes no memory.
     pub fn contains(&self, value: &[u8]) -> bool
         ensures { result ≡ is_among value.now self.now }
     {
-        if self.values.len() <= FEW {
-            return is_one_of(self.values.as_slice(), value);
+        if self.near.has(self.values.as_slice(), value) {
+            return true;
         }
+        self.has_by_hash(value)
+    }
+
+    // Seldom reached: by a value that isn't in the table, or that another one hides.
+    #[cold]
+    #[inline(never)]
+    fn has_by_hash(&self, value: &[u8]) -> bool
+        ensures { result ≡ is_among value.now self.now }
+    {
         self.values.contains(value)
     }
 
