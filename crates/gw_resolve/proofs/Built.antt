@@ -4,7 +4,6 @@ use Rattle.gw_maplang.specs.Shapes as raw
 use Rattle.gw_maplang.specs.Seen as raws
 use Rattle.gw_maplang.specs.declared.item.Item as their
 use Rattle.std.proofs.Math.ListN.{drop_of_length-le}
-use Rattle.std.specs.Global.{Vec}
 use Rattle.gw_maplang.specs.declared.item.GroupItem as their_group
 use Rattle.gw_maplang.specs.declared.item.FlatItem as their_flat
 use Rattle.gw_maplang.proofs.Rows as their_rows
@@ -50,39 +49,23 @@ items_done tables scope nodes whole xs i ys le so_far =
     sym (so_far ∙ ap (λ l. with_items tables ys (resolved_items tables scope nodes (raws.all_items l))) (drop_of_length-le xs le) ∙ with_none tables ys)
 
 -- a group with its items
-pub made_group : (tables : List raw.TableValue) (scope inner asked : List Element) (nodes below : Forest) (g : their_group.GroupItem) (made : GroupItem) (p q : List (Vec ℕ)) (label : List ℕ) (xs : List their.Item) (rest : raw.Items) → p ≡ g.walk.path.items → q ≡ g.walk.path.items → label ≡ g.label.items → xs ≡ g.items.items
-    → made.line ≡ g.line → place made.place ≡ place_or scope (raws.items_all p) → inner ≡ within scope (place_or scope (raws.items_all q)) → asked ≡ within scope (place_or scope (raws.items_all q))
-    → some_condition made.condition ≡ condition_within asked (raws.field_condition_some g.walk.condition) → made.child ≡ node_or 0 nodes label → below ≡ nodes_of_child nodes made.child
-    → ((tables : List raw.TableValue) → all_items tables made.items.items ≡ resolved_items tables inner below (raws.all_items xs))
+pub made_group : (tables : List raw.TableValue) (scope : List Element) (nodes : Forest) (g : their_group.GroupItem) (made : GroupItem) (rest : raw.Items)
+    → made.line ≡ g.line → made.child ≡ node_or 0 nodes g.label.items → place made.place ≡ place_or scope (raws.path g.walk.path)
+    → some_condition made.condition ≡ condition_within (within scope (place_or scope (raws.path g.walk.path))) (raws.field_condition_some g.walk.condition)
+    → all_items tables made.items.items ≡ resolved_items tables (within scope (place_or scope (raws.path g.walk.path))) (nodes_of_child nodes (node_or 0 nodes g.label.items)) (raws.all_items g.items.items)
     → with_item tables (Group made) (resolved_items tables scope nodes rest) ≡ resolved_items tables scope nodes (raws.with_item (their.EachAs g) rest)
-made_group tables scope inner asked nodes below g made p q label xs rest a b c d line at walks asks condition child lower items =
-    let child' : made.child ≡ node_or 0 nodes g.label.items = child ∙ ap (node_or 0 nodes) c in
-    let at' : place made.place ≡ place_or scope (raws.path g.walk.path) = at ∙ ap (λ x. place_or scope (raws.items_all x)) a in
-    let inner' : inner ≡ within scope (place_or scope (raws.path g.walk.path)) = walks ∙ ap (λ x. within scope (place_or scope (raws.items_all x))) b in
-    let asked' : asked ≡ within scope (place_or scope (raws.path g.walk.path)) = asks ∙ ap (λ x. within scope (place_or scope (raws.items_all x))) b in
-    let condition' : some_condition made.condition ≡ condition_within (within scope (place_or scope (raws.path g.walk.path))) (raws.field_condition_some g.walk.condition) =
-    condition ∙ ap (λ s. condition_within s (raws.field_condition_some g.walk.condition)) asked' in
-    let lower' : below ≡ nodes_of_child nodes (node_or 0 nodes g.label.items) = lower ∙ ap (nodes_of_child nodes) child' in
+made_group tables scope nodes g made rest line child at condition items =
     let others = resolved_items tables scope nodes rest in
-    let held : all_items tables made.items.items ≡ resolved_items tables (within scope (place_or scope (raws.path g.walk.path))) (nodes_of_child nodes (node_or 0 nodes g.label.items)) (raws.all_items g.items.items) =
-    items tables ∙ (λ i. resolved_items tables (inner' i) (lower' i) (raws.all_items (d i))) in
-    group_items tables made others ∙ (λ i. group_item (record { line = line i; child = child' i; place = at' i; condition = condition' i }) (held i) others)
+    group_items tables made others ∙ (λ i. group_item (record { line = line i; child = child i; place = at i; condition = condition i }) (items i) others)
     ∙ ap (resolved_items tables scope nodes) (sym (their_rows.group_items g rest))
 
 -- a flat with its items
-pub made_flat : (tables : List raw.TableValue) (scope inner asked : List Element) (nodes : Forest) (f : their_flat.FlatItem) (made : FlatItem) (p q : List (Vec ℕ)) (xs : List their.Item) (rest : raw.Items) → p ≡ f.walk.path.items → q ≡ f.walk.path.items → xs ≡ f.items.items
-    → made.line ≡ f.line → place made.place ≡ place_or scope (raws.items_all p) → inner ≡ within scope (place_or scope (raws.items_all q)) → asked ≡ within scope (place_or scope (raws.items_all q))
-    → some_condition made.condition ≡ condition_within asked (raws.field_condition_some f.walk.condition)
-    → ((tables : List raw.TableValue) → all_items tables made.items.items ≡ resolved_items tables inner nodes (raws.all_items xs))
+pub made_flat : (tables : List raw.TableValue) (scope : List Element) (nodes : Forest) (f : their_flat.FlatItem) (made : FlatItem) (rest : raw.Items)
+    → made.line ≡ f.line → place made.place ≡ place_or scope (raws.path f.walk.path)
+    → some_condition made.condition ≡ condition_within (within scope (place_or scope (raws.path f.walk.path))) (raws.field_condition_some f.walk.condition)
+    → all_items tables made.items.items ≡ resolved_items tables (within scope (place_or scope (raws.path f.walk.path))) nodes (raws.all_items f.items.items)
     → with_item tables (Flat made) (resolved_items tables scope nodes rest) ≡ resolved_items tables scope nodes (raws.with_item (their.EachFlat f) rest)
-made_flat tables scope inner asked nodes f made p q xs rest a b d line at walks asks condition items =
-    let at' : place made.place ≡ place_or scope (raws.path f.walk.path) = at ∙ ap (λ x. place_or scope (raws.items_all x)) a in
-    let inner' : inner ≡ within scope (place_or scope (raws.path f.walk.path)) = walks ∙ ap (λ x. within scope (place_or scope (raws.items_all x))) b in
-    let asked' : asked ≡ within scope (place_or scope (raws.path f.walk.path)) = asks ∙ ap (λ x. within scope (place_or scope (raws.items_all x))) b in
-    let condition' : some_condition made.condition ≡ condition_within (within scope (place_or scope (raws.path f.walk.path))) (raws.field_condition_some f.walk.condition) =
-    condition ∙ ap (λ s. condition_within s (raws.field_condition_some f.walk.condition)) asked' in
+made_flat tables scope nodes f made rest line at condition items =
     let others = resolved_items tables scope nodes rest in
-    let held : all_items tables made.items.items ≡ resolved_items tables (within scope (place_or scope (raws.path f.walk.path))) nodes (raws.all_items f.items.items) =
-    items tables ∙ (λ i. resolved_items tables (inner' i) nodes (raws.all_items (d i))) in
-    flat_items tables made others ∙ (λ i. flat_item (record { line = line i; place = at' i; condition = condition' i }) (held i) others)
+    flat_items tables made others ∙ (λ i. flat_item (record { line = line i; place = at i; condition = condition i }) (items i) others)
     ∙ ap (resolved_items tables scope nodes) (sym (their_rows.flat_items f rest))

@@ -1,13 +1,12 @@
 -- What the program finds at a place.
-use Rattle.std.proofs.Common.{get_or, ◌≡◌, inl, inr, ℕ, zero, suc, ◌-◌, ◌≤◌, ◌<◌, List, [], ◌∷◌, Option, Some, None, refl, sym, ap, ap₂, ◌∙◌, arith, length, map, reverse, slice_get, subst}
-use Rattle.std.proofs.lemmas.Option.{slice_get_past, slice_get_cases}
-use Rattle.std.proofs.lemmas.List.{length-map, length-reverse, get_or-reverse, get_or-map}
+use Rattle.std.proofs.Common.{◌≡◌, ℕ, zero, suc, List, [], ◌∷◌, Option, Some, None, refl, ap, ap₂, ◌∙◌, slice_get}
 use Rattle.gw_resolve.specs.Intervals.{Interval, of_card, product}
 use Rattle.gw_resolve.specs.Places.{Element, nodes_of, Found, child, card_of, times, node_found, found_below, found_in, element_of}
 use Rattle.gw_resolve.specs.Seen.{saturated, saturated_found}
 use Rattle.gw_resolve.proofs.Saturation.{product_saturated}
 
-abbrev at_element : Option Element → List ℕ → Option Found
+-- below an element, where one is
+abbrev pub at_element : Option Element → List ℕ → Option Found
 at_element None steps = None
 at_element (Some e) steps = found_below steps e
 
@@ -35,34 +34,10 @@ below_there steps e next i there = ap (λ c. node_found c (found_below steps)) t
 pub below_missing : (steps : List ℕ) (e : Element) (i : ℕ) → child (nodes_of e) i ≡ None → found_below (i ∷ steps) e ≡ None
 below_missing steps e i there = ap (λ c. node_found c (found_below steps)) there
 
--- the innermost element stands last in the program
-in_scope : (es : List Element) (out : ℕ) (steps : List ℕ) → found_in es out steps ≡ at_element (slice_get es out) steps
+pub in_scope : (es : List Element) (out : ℕ) (steps : List ℕ) → found_in es out steps ≡ at_element (slice_get es out) steps
 in_scope [] out steps = refl
 in_scope (e ∷ es) zero steps = refl
 in_scope (e ∷ es) (suc out) steps = in_scope es out steps
-
-pub out_of_scope : (es : List Element) (out : ℕ) (steps : List ℕ) → length es ≤ out → found_in (reverse es) out steps ≡ None
-out_of_scope es out steps h =
-    let past : length (reverse es) ≤ out = subst (λ n. n ≤ out) (sym (length-reverse es)) h in
-    in_scope (reverse es) out steps ∙ ap (λ e. at_element e steps) (slice_get_past (reverse es) out past)
-
--- the element so far outwards, of those whose innermost stands last
-pub found_among : {A : Type 0} (seen : A → Element) (es : List A) (out : ℕ) (steps : List ℕ) (e : A) → out < length es → e ≡ get_or es (length es - 1 - out) e → found_in (reverse (map seen es)) out steps ≡ found_below steps (seen e)
-found_among seen es out steps e h is =
-    in_scope (reverse (map seen es)) out steps ∙ ap (λ x. at_element x steps) (
-    elim ((slice_get_cases (reverse (map seen es)) out).1) [
-      | inl x ↦ x.2 ∙ ap Some (sym x.3 ∙ get_or-reverse (map seen es) out x.0 within ∙ there x.0)
-      | inr x ↦ absurd (omega (arith, x.0, within, length-reverse (map seen es)))
-    ])
-  where
-    within : out < length (map seen es)
-    within = omega (arith, h, length-map es seen)
-
-    there : (d : Element) → get_or (map seen es) (length (map seen es) - 1 - out) d ≡ seen e
-    there d =
-        ap (λ n. get_or (map seen es) (n - 1 - out) d) (length-map es seen)
-        ∙ get_or-map seen es (length es - 1 - out) e d (omega (arith, h))
-        ∙ ap seen (sym is)
 
 -- the element that was found, however often it is there
 pub same_element : (f : Option Found) → element_of (saturated_found f) ≡ element_of f

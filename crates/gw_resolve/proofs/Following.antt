@@ -2,7 +2,7 @@
 use Rattle.std.proofs.Common.{◌≡◌, ℕ, ◌+◌, ◌-◌, ◌<◌, ◌≤◌, List, [], ◌∷◌, ◌++◌, take, drop, get_or, length, Option, Some, None, refl, sym, ap, ◌∙◌, arith}
 use Rattle.std.specs.Prelude.{option_map, option_and_then}
 use Rattle.std.specs.Global.{Vec}
-use Rattle.std.proofs.Math.ListN.{drop_of_length-le, length-drop}
+use Rattle.std.proofs.Math.ListN.{drop_of_length-le}
 use Rattle.std.proofs.lemmas.List.{append-nil, append_assoc, take_all}
 use Rattle.gw_profile.specs.Shapes.{Forest}
 use Rattle.gw_profile.specs.Labels.{labelled}
@@ -54,22 +54,10 @@ pub no_path : (scope : List Element) (path : List (Vec ℕ)) → length path < 1
 no_path scope [] less = refl
 no_path scope (x ∷ path) less = absurd (omega (arith, less))
 
--- those behind the first label
-behind_first : (path : List (Vec ℕ)) → take (length path - 1) (drop 1 path) ≡ drop 1 path
-behind_first path = take_all (length path - 1) (drop 1 path) (omega (arith, length-drop 1 path))
-
 -- the first label, and where those behind it lead
-placed : (scope : List Element) (path : List (Vec ℕ)) (x : Vec ℕ) (label : List ℕ) → 1 ≤ length path → x ≡ get_or path 0 x → label ≡ x.items
-    → option_and_then (onwards scope (items_all (drop 1 path))) (first_label scope label) ≡ place_of scope (items_all path)
-placed scope [] x label m e same = absurd (omega (arith, m))
-placed scope (y ∷ path) x label m e same = ap (λ l. option_and_then (onwards scope (items_all path)) (first_label scope l)) (same ∙ ap (λ (v : Vec ℕ). v.items) e)
-
-pub placed_from : (scope : List Element) (path : List (Vec ℕ)) (x : Vec ℕ) (label : List ℕ) (o : Option ScopePath) (p : ScopePath) → 1 ≤ length path → x ≡ get_or path 0 x → label ≡ x.items → option_map place o ≡ first_label scope label → o ≡ Some p
-    → onwards scope (items_all (take (length path - 1) (drop 1 path))) (place p) ≡ place_of scope (items_all path)
-placed_from scope path x label o p m e same is some =
-    ap (λ l. onwards scope (items_all l) (place p)) (behind_first path)
-    ∙ ap (option_and_then (onwards scope (items_all (drop 1 path)))) (sym (ap (option_map place) some) ∙ is) ∙ placed scope path x label m e same
-
-pub placed_nowhere : (scope : List Element) (path : List (Vec ℕ)) (x : Vec ℕ) (label : List ℕ) (o : Option ScopePath) → 1 ≤ length path → x ≡ get_or path 0 x → label ≡ x.items → option_map place o ≡ first_label scope label → o ≡ None → None ≡ place_of scope (items_all path)
-placed_nowhere scope path x label o m e same is none =
-    ap (option_and_then (onwards scope (items_all (drop 1 path)))) (sym (ap (option_map place) none) ∙ is) ∙ placed scope path x label m e same
+pub placed : (scope : List Element) (path : List (Vec ℕ)) (x : Vec ℕ) (label : List ℕ) (o : Option ScopePath) → 1 ≤ length path → x ≡ get_or path 0 x → label ≡ x.items → option_map place o ≡ first_label scope label
+    → option_and_then (onwards scope (items_all (take (length path - 1) (drop 1 path)))) (option_map place o) ≡ place_of scope (items_all path)
+placed scope [] x label o m e same is = absurd (omega (arith, m))
+placed scope (y ∷ path) x label o m e same is =
+    ap (λ l. option_and_then (onwards scope (items_all l)) (option_map place o)) (take_all (length (y ∷ path) - 1) path (omega arith))
+    ∙ ap (option_and_then (onwards scope (items_all path))) (is ∙ ap (first_label scope) (same ∙ ap (λ (v : Vec ℕ). v.items) e))

@@ -8,10 +8,7 @@ use Rattle.gw_resolve.specs.Seen.{cap, saturated}
 
 -- from the cap on all are one
 least_product : (a b : ℕ) → min (a * min b cap) cap ≡ min (a * b) cap
-least_product zero b =
-    let none : 0 * min b cap ≡ 0 = omega arith in
-    let nothing : 0 * b ≡ 0 = omega arith in
-    ap (λ n. min n cap) (none ∙ sym nothing)
+least_product zero b = omega arith
 least_product (suc a) b =
     elim (leb_tells b cap) [
       | inl k ↦ let h = k.1 in let same : min b cap ≡ b = omega (arith, h) in ap (λ n. min (suc a * n) cap) same
@@ -24,28 +21,14 @@ least_product (suc a) b =
           ap (λ n. min (suc a * n) cap) top ∙ omega (arith, h, more, most)
     ]
 
-no_limit : (n : ℕ) → 0 < n → multiply None (Some n) ≡ None
+-- where the one has no limit and the other isn't 0
+no_limit : (n : ℕ) → 0 < n → (multiply None (Some n) ≡ None) × (multiply (Some n) None ≡ None)
 no_limit zero h = absurd (omega (arith, h))
-no_limit (suc n) h = refl
+no_limit (suc n) h = (refl, refl)
 
-capped_greatest : (a b : Option ℕ) → option_map (λ n. min n cap) (multiply a (option_map (λ n. min n cap) b)) ≡ option_map (λ n. min n cap) (multiply a b)
-capped_greatest None None = refl
-capped_greatest None (Some zero) = refl
-capped_greatest None (Some (suc b)) = ap (option_map (λ n. min n cap)) (no_limit (min (suc b) cap) (omega arith))
-capped_greatest (Some zero) b = refl
-capped_greatest (Some (suc a)) None = refl
-capped_greatest (Some (suc a)) (Some b) = ap Some (least_product (suc a) b)
-
-multiply_comm : (a b : Option ℕ) → multiply a b ≡ multiply b a
-multiply_comm None None = refl
-multiply_comm None (Some zero) = refl
-multiply_comm None (Some (suc b)) = refl
-multiply_comm (Some zero) None = refl
-multiply_comm (Some zero) (Some zero) = refl
-multiply_comm (Some zero) (Some (suc b)) = let none : suc b * 0 ≡ 0 = omega arith in ap Some (sym none)
-multiply_comm (Some (suc a)) None = refl
-multiply_comm (Some (suc a)) (Some zero) = let none : suc a * 0 ≡ 0 = omega arith in ap Some none
-multiply_comm (Some (suc a)) (Some (suc b)) = ap Some (mul_comm (suc a) (suc b))
+both_limits : (a b : ℕ) → multiply (Some a) (Some b) ≡ Some (a * b)
+both_limits zero b = let none : 0 ≡ 0 * b = omega arith in ap Some none
+both_limits (suc a) b = refl
 
 abbrev interval_of : ℕ → Option ℕ → Interval
 interval_of least greatest = record { least = least; greatest = greatest }
@@ -61,11 +44,13 @@ product_saturated a b = ap₂ interval_of (least_both a.least b.least) (greatest
         ∙ ap (λ n. min n cap) (mul_comm y x)
 
     greatest_both : (x y : Option ℕ) → option_map (λ n. min n cap) (multiply (option_map (λ n. min n cap) x) (option_map (λ n. min n cap) y)) ≡ option_map (λ n. min n cap) (multiply x y)
-    greatest_both x y =
-        capped_greatest (option_map (λ n. min n cap) x) y
-        ∙ ap (option_map (λ n. min n cap)) (multiply_comm (option_map (λ n. min n cap) x) y)
-        ∙ capped_greatest y x
-        ∙ ap (option_map (λ n. min n cap)) (multiply_comm y x)
+    greatest_both None None = refl
+    greatest_both None (Some zero) = refl
+    greatest_both None (Some (suc b)) = ap (option_map (λ n. min n cap)) (no_limit (min (suc b) cap) (omega arith)).0
+    greatest_both (Some zero) None = refl
+    greatest_both (Some (suc a)) None = ap (option_map (λ n. min n cap)) (no_limit (min (suc a) cap) (omega arith)).1
+    greatest_both (Some a) (Some b) =
+        ap (option_map (λ n. min n cap)) (both_limits (min a cap) (min b cap)) ∙ ap Some (least_both a b) ∙ sym (ap (option_map (λ n. min n cap)) (both_limits a b))
 
 pub sum_saturated : (a b : Interval) → saturated (sum (saturated a) (saturated b)) ≡ saturated (sum a b)
 sum_saturated a b =

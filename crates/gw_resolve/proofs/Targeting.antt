@@ -42,16 +42,13 @@ within_either : (nodes : Forest) (j line : ℕ) (n : Option ℕ) (items : Items)
 within_either nodes j line None items = refl
 within_either nodes j line (Some k) items = refl
 
-pub group_targets : (nodes below : Forest) (j node : ℕ) (g : GroupItem) (label : List ℕ) (items : List Item) → label ≡ g.label.items → items ≡ g.items.items → node ≡ node_or 0 nodes label → below ≡ nodes_of_child nodes node
+pub group_targets : (nodes below : Forest) (j : ℕ) (g : GroupItem) (label : List ℕ) (items : List Item) → label ≡ g.label.items → items ≡ g.items.items → below ≡ nodes_of_child nodes (node_or 0 nodes g.label.items)
     → or_later (label_failures nodes is_group j g.line label) (target_failures below 0 (all_items items)) ≡ target_failures nodes j (with_item (EachAs g) nothing)
-group_targets nodes below j node g label items a b n e =
-    (λ i. or_later (label_failures nodes is_group j g.line (a i)) (target_failures (below' i) 0 (all_items (b i))))
+group_targets nodes below j g label items a b e =
+    (λ i. or_later (label_failures nodes is_group j g.line (a i)) (target_failures (e i) 0 (all_items (b i))))
     ∙ within_either nodes j g.line (labelled nodes g.label.items) (all_items g.items.items)
     ∙ sym (append-nil (or_later (label_failures nodes is_group j g.line g.label.items) (target_failures (nodes_of_child nodes (node_or j nodes g.label.items)) 0 (all_items g.items.items))))
     ∙ ap (target_failures nodes j) (sym (group_items g nothing))
-  where
-    below' : below ≡ nodes_of_child nodes (node_or 0 nodes g.label.items)
-    below' = e ∙ ap (nodes_of_child nodes) (n ∙ ap (node_or 0 nodes) a)
 
 pub flat_targets : (nodes : Forest) (j : ℕ) (f : FlatItem) (xs ys : List Item) → xs ≡ f.items.items → ys ≡ f.items.items
     → or_later (flat_failures nodes j f.line (labels (all_items xs))) (target_failures nodes 0 (all_items ys)) ≡ target_failures nodes j (with_item (EachFlat f) nothing)

@@ -10,7 +10,7 @@ use Rattle.gw_resolve.specs.declared.failure.Failure.{Failure}
 use Rattle.gw_resolve.specs.declared.items.ResolvedItem.{ResolvedItem}
 use Rattle.gw_resolve.specs.declared.lost.NameFailures.{NameFailures}
 use Rattle.gw_resolve.specs.declared.resolved.Item.{Item}
-use Rattle.gw_resolve.specs.Failures.{Failure as Told, where_so, or_later}
+use Rattle.gw_resolve.specs.Failures.{Failure as Told, where_so}
 use Rattle.gw_resolve.specs.Places.{Element}
 use Rattle.gw_resolve.specs.Naming as spec
 use Rattle.gw_resolve.specs.Seen.{Notes, failures, with_item, all_items, left_out}
@@ -53,14 +53,9 @@ pub record ResolvesItem (scope : List Element) (nodes : Forest) (j : ℕ) (from 
   pub paths : Notes old.paths new.paths (path_failures scope from)
   pub targets : Notes old.targets new.targets (target_failures nodes j from)
 
--- behind the first failures come more, up to the kept ones: where there are any, those behind them are taken back
-abbrev pub Hides : List Failure → List Failure → ℕ → ℕ → Type 0
-Hides old new before kept =
-    (first own later : List Told) → length first ≡ before → length (first ++ own) ≡ kept → failures old ≡ (first ++ own) ++ later → failures new ≡ first ++ or_later own later
-
--- those behind the first ones are taken back, where the path before them leads nowhere
-abbrev pub HidesUnled : List Failure → List Failure → Bool → ℕ → Type 0
-HidesUnled old new leads kept = (own later : List Told) → length own ≡ kept → failures old ≡ own ++ later → failures new ≡ own ++ where_so leads later
+-- those behind the first ones are taken back, unless they are shown
+abbrev pub Hides : List Failure → List Failure → Bool → ℕ → Type 0
+Hides old new shown kept = (own later : List Told) → length own ≡ kept → failures old ≡ own ++ later → failures new ≡ own ++ where_so shown later
 
 -- ---- the whole
 
@@ -79,7 +74,3 @@ pub record IsLost (from to : ProfileValue) (m : MapValue) (found : List Failure)
 abbrev pub Resolves : ProfileValue → ProfileValue → MapValue → declared.Resolving → Type 0
 Resolves from to m (declared.TheVariants.Refused found) = IsLost from to m found.items
 Resolves from to m (declared.TheVariants.Resolved made) = IsNamed from to m made
-
--- for all profiles with these nodes
-abbrev pub ResolvesBy : Forest → Forest → MapValue → declared.Resolving → Type 0
-ResolvesBy source target m made = (from to : ProfileValue) → from.nodes ≡ source → to.nodes ≡ target → Resolves from to m made

@@ -10,15 +10,7 @@ use Rattle.gw_resolve.specs.declared.element.ScopeNode as elements
 use Rattle.gw_resolve.specs.declared.element.CountedNode as founds
 use Rattle.gw_resolve.specs.Failures.{Mark, Failure}
 use Rattle.gw_resolve.specs.Intervals.{Interval}
-use Rattle.gw_resolve.specs.declared.resolved.ScopePath as places
-use Rattle.gw_resolve.specs.declared.resolved.Reference as references
-use Rattle.gw_resolve.specs.declared.resolved.Source as sources_of
-use Rattle.gw_resolve.specs.declared.resolved.ResolvedLeaf as leaves
-use Rattle.gw_resolve.specs.declared.resolved.Alternative as the_alternatives
-use Rattle.gw_resolve.specs.declared.resolved.At as ats
-use Rattle.gw_resolve.specs.declared.resolved.Making as makings
-use Rattle.gw_resolve.specs.declared.resolved.FieldCondition as conditions
-use Rattle.gw_resolve.specs.declared.resolved.Rule as rules_of
+use Rattle.gw_resolve.specs.declared.resolved as resolved
 use Rattle.gw_resolve.specs.declared.resolved.Item.{Item, Segment, Group', Flat', Row_of-Item, end_of-Item, more_of-Item}
 use Rattle.gw_resolve.specs.declared.resolved.LeftOut.{LeftOut}
 use Rattle.gw_maplang.specs.Seen.{condition as seen_condition, condition_some}
@@ -76,42 +68,42 @@ saturated_found found = option_map (λ (f : Found). record { element = f.element
 
 -- ---- a map without labels; its tables stand apart
 
-abbrev pub place : places.ScopePath → Place
+abbrev pub place : resolved.ScopePath.ScopePath → Place
 place p = record { out = p.out; steps = p.steps.items }
 
-abbrev pub reference : references.Reference → Reference
+abbrev pub reference : resolved.Reference.Reference → Reference
 reference r = record { place = place r.place; field = r.field }
 
-abbrev pub source : sources_of.Source → Source
-source (sources_of.TheVariants.OfField from at) = of_field (reference from) at.comp at.sub
-source (sources_of.TheVariants.OfCurrent at) = of_current at.comp at.sub
+abbrev pub source : resolved.Source.Source → Source
+source (resolved.Source.TheVariants.OfField from at) = of_field (reference from) at.comp at.sub
+source (resolved.Source.TheVariants.OfCurrent at) = of_current at.comp at.sub
 
-abbrev pub leaf : List TableValue → leaves.ResolvedLeaf → Leaf
-leaf tables (leaves.TheVariants.Const text) = const text.items
-leaf tables (leaves.TheVariants.Copied from) = copied (source from)
-leaf tables (leaves.TheVariants.LookedUp name from) = looked_up (unwrap_or (table_of name.items tables) no_rows) (source from)
-leaf tables (leaves.TheVariants.Dated digits from) = dated digits (source from)
+abbrev pub leaf : List TableValue → resolved.ResolvedLeaf.ResolvedLeaf → Leaf
+leaf tables (resolved.ResolvedLeaf.TheVariants.Const text) = const text.items
+leaf tables (resolved.ResolvedLeaf.TheVariants.Copied from) = copied (source from)
+leaf tables (resolved.ResolvedLeaf.TheVariants.LookedUp name from) = looked_up (unwrap_or (table_of name.items tables) no_rows) (source from)
+leaf tables (resolved.ResolvedLeaf.TheVariants.Dated digits from) = dated digits (source from)
 
-abbrev pub alternative : List TableValue → the_alternatives.Alternative → Alternative
+abbrev pub alternative : List TableValue → resolved.Alternative.Alternative → Alternative
 alternative tables o = record { line = o.line; leaf = leaf tables o.leaf }
 
-abbrev pub at_leaf : List TableValue → ats.At → At
+abbrev pub at_leaf : List TableValue → resolved.At.At → At
 at_leaf tables a =
     record { line = a.line; comp = a.place.comp; sub = a.place.sub; leaf = leaf tables a.leaf; others = map (alternative tables) a.others.items }
 
-abbrev pub making : List TableValue → makings.Making → Making
-making tables (makings.TheVariants.Copy from) = copy (reference from)
-making tables (makings.TheVariants.First from chosen) = first (reference from) (condition_some chosen)
-making tables (makings.TheVariants.Repeat from chosen each) = repeat (reference from) (condition_some chosen) (map (at_leaf tables) each.items)
-making tables (makings.TheVariants.Build each) = build (map (at_leaf tables) each.items)
+abbrev pub making : List TableValue → resolved.Making.Making → Making
+making tables (resolved.Making.TheVariants.Copy from) = copy (reference from)
+making tables (resolved.Making.TheVariants.First from chosen) = first (reference from) (condition_some chosen)
+making tables (resolved.Making.TheVariants.Repeat from chosen each) = repeat (reference from) (condition_some chosen) (map (at_leaf tables) each.items)
+making tables (resolved.Making.TheVariants.Build each) = build (map (at_leaf tables) each.items)
 
-abbrev pub rule : List TableValue → rules_of.Rule → Rule
+abbrev pub rule : List TableValue → resolved.Rule.Rule → Rule
 rule tables r = record { line = r.line; field = r.field; making = making tables r.making }
 
-abbrev pub condition : conditions.FieldCondition → FieldCondition
+abbrev pub condition : resolved.FieldCondition.FieldCondition → FieldCondition
 condition c = record { from = reference c.from; condition = seen_condition c.condition }
 
-abbrev pub some_condition : Option conditions.FieldCondition → Option FieldCondition
+abbrev pub some_condition : Option resolved.FieldCondition.FieldCondition → Option FieldCondition
 some_condition c = option_map condition c
 
 abbrev mutual

@@ -1,5 +1,5 @@
 //! Elements of a profile, and what stands at the places of a map.
-ghost use Rattle.std.specs.Prelude.{◌≡◌, ◌∷◌, Some, IfOk, option_map};
+ghost use Rattle.std.specs.Prelude.{◌≡◌, ◌∷◌, Some, IfOk, option_map, slice_get};
 ghost use Rattle.gw_profile.specs.Labels.{inner, nodes_in};
 ghost use Rattle.gw_profile.specs.Seen.{forest, node_forest};
 ghost use Rattle.gw_profile.specs.Shapes.{nothing};
@@ -58,10 +58,7 @@ pub(crate) fn child<'a, 'p>(
 ) -> Option<ScopeNode<'a, 'p>>
     ensures { option_map seen result ≡ spec.child (nodes_in level.entry) number }
 {
-    match level {
-        None => None,
-        Some(level) => node_at(level, number),
-    }
+    node_at(level?, number)
 }
 
 /// The level within an element.
@@ -70,8 +67,7 @@ pub(crate) fn nodes_of<'a, 'p>(element: ScopeNode<'a, 'p>) -> Option<&'a Level<'
 {
     match element {
         ScopeNode::Segment(_) => None,
-        ScopeNode::Group(_, level) => level,
-        ScopeNode::Whole(level) => level,
+        ScopeNode::Group(_, level) | ScopeNode::Whole(level) => level,
     }
 }
 
@@ -82,10 +78,7 @@ pub(crate) fn nodes_of_child<'a, 'p>(
 ) -> Option<&'a Level<'p>>
     ensures { nodes_in result ≡ spec.nodes_of_child (nodes_in level.entry) number }
 {
-    match child(level, number) {
-        None => None,
-        Some(element) => nodes_of(element),
-    }
+    nodes_of(child(level, number)?)
 }
 
 // How often an element comes; the whole comes once.
@@ -108,13 +101,11 @@ fn times<'a, 'p>(
 ) -> Option<CountedNode<'a, 'p>>
     ensures { IsTimes (seen element.entry) below.entry result }
 {
-    match below {
-        None => None,
-        Some(below) => Some(CountedNode {
-            element: below.element,
-            count: count_of(element).times(below.count),
-        }),
-    }
+    let below = below?;
+    Some(CountedNode {
+        element: below.element,
+        count: count_of(element).times(below.count),
+    })
 }
 
 // What stands where this step and the others lead.
@@ -126,10 +117,8 @@ fn step<'a, 'p>(
 ) -> Option<CountedNode<'a, 'p>>
     ensures { found_value result ≡ saturated_found (spec.found_below (first ∷ rest.now) (seen element.entry)) }
 {
-    match child(nodes_of(element), first) {
-        None => None,
-        Some(next) => times(next, found_below(next, rest)),
-    }
+    let next = child(nodes_of(element), first)?;
+    times(next, found_below(next, rest))
 }
 
 // What stands where the steps lead.
@@ -146,14 +135,21 @@ fn found_below<'a, 'p>(element: ScopeNode<'a, 'p>, steps: &[usize]) -> Option<Co
     step(element, *first, rest)
 }
 
+/// The element so far outwards from the innermost, which is the last.
+pub(crate) fn outer<'a, 'p>(scope: &[ScopeNode<'a, 'p>], out: usize) -> Option<ScopeNode<'a, 'p>>
+    ensures { option_map seen result ≡ slice_get (walked scope.now) out }
+{
+    if out >= scope.len() {
+        return None;
+    }
+    Some(scope[scope.len() - 1 - out])
+}
+
 /// What stands at a place, seen from the elements that are walked, the innermost last. It takes no memory.
 pub fn find<'a, 'p>(scope: &[ScopeNode<'a, 'p>], place: &ScopePath) -> Option<CountedNode<'a, 'p>>
     ensures { found_value result ≡ saturated_found (spec.found (walked scope.now) (seen_place place.now)) }
 {
-    if place.out >= scope.len() {
-        return None;
-    }
-    found_below(scope[scope.len() - 1 - place.out], &place.steps)
+    found_below(outer(scope, place.out)?, &place.steps)
 }
 
 /// The element at a place, where one is.

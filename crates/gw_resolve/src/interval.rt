@@ -55,34 +55,23 @@ fn capped(count: u64) -> u64
 fn capped_all(count: Option<u32>) -> Option<u64>
     ensures { result ≡ option_map (λ n. min n cap) count }
 {
-    match count {
-        None => None,
-        Some(count) => Some(capped(u64::from(count))),
-    }
+    Some(capped(u64::from(count?)))
 }
 
 fn multiplied(a: Option<u64>, b: Option<u64>) -> Option<u64>
     ensures { result ≡ option_map (λ n. min n cap) (spec.multiply a b) }
 {
     match (a, b) {
-        (None, None) => None,
         (Some(a), Some(b)) => Some(capped(a.saturating_mul(b))),
-        (None, Some(n)) | (Some(n), None) => {
-            if n == 0 {
-                return Some(0);
-            }
-            None
-        }
+        (None, Some(0)) | (Some(0), None) => Some(0),
+        _ => None,
     }
 }
 
 fn added(a: Option<u64>, b: Option<u64>) -> Option<u64>
     ensures { result ≡ option_map (λ n. min n cap) (spec.add a b) }
 {
-    match (a, b) {
-        (Some(a), Some(b)) => Some(capped(a.saturating_add(b))),
-        _ => None,
-    }
+    Some(capped(a?.saturating_add(b?)))
 }
 
 impl Interval {
@@ -131,10 +120,7 @@ impl Interval {
     pub fn is_never(self) -> bool
         ensures { result ≡ spec.is_never self.greatest }
     {
-        match self.greatest {
-            None => false,
-            Some(most) => most == 0,
-        }
+        self.greatest == Some(0)
     }
 
     /// No more than the limit.
@@ -152,13 +138,9 @@ impl Interval {
     pub fn at_most_one(self) -> Interval
         ensures { interval result ≡ spec.at_most_one (interval self) }
     {
-        let most = match self.greatest {
-            None => 1,
-            Some(most) => most.min(1),
-        };
         Interval {
             least: self.least.min(1),
-            greatest: Some(most),
+            greatest: Some(self.greatest.unwrap_or(1).min(1)),
         }
     }
 
@@ -166,9 +148,6 @@ impl Interval {
     pub fn or_none(self) -> Interval
         ensures { interval result ≡ record { least = 0; greatest = self.greatest } }
     {
-        Interval {
-            least: 0,
-            greatest: self.greatest,
-        }
+        Interval { least: 0, ..self }
     }
 }

@@ -1,20 +1,21 @@
 //! The items of a map without labels: one walk that finds the failures of what they name.
-ghost use Rattle.std.specs.Prelude.{◌≡◌, IfOk, OnOk, map, Option, Some, None};
+ghost use Rattle.std.specs.Prelude.{◌≡◌, IfOk, OnOk};
 ghost use Rattle.gw_maplang.specs.Seen as raw;
 ghost use Rattle.gw_maplang.specs.declared.item.Item.{SegFrom, SegAlways, EachAs, EachFlat};
 ghost use Rattle.gw_profile.specs.Labels.{nodes_in};
 ghost use Rattle.gw_resolve.specs.Naming as spec;
-ghost use Rattle.gw_resolve.specs.Places.{within as scope_within};
-ghost use Rattle.gw_resolve.specs.Outcome.{AreMadeOf, MakesItems, ResolvesItem, path_failures};
-ghost use Rattle.gw_resolve.specs.Seen.{Notes, scope as walked, place as seen_place, rule, some_condition};
+ghost use Rattle.gw_resolve.specs.own.Looking.{Walks};
+ghost use Rattle.gw_resolve.specs.Outcome.{MakesItems, ResolvesItem};
+ghost use Rattle.gw_resolve.specs.Seen.{Notes, scope as walked};
 
 use crate::element::{ScopeNode, enter, nodes_of_child};
 use crate::failure::Failure;
 use crate::led::{PathUse, lead};
-use crate::lost::{NameFailures, hide_both, hide_unled, mark};
+use crate::lost::{NameFailures, hide};
 use crate::resolved::{FieldCondition, FlatItem, GroupItem, Item, Rule, ScopePath, SegmentItem};
 use crate::rules::{field_condition, rules};
 use crate::targets::{NodeKind, TargetNode, flat_target, label_target};
+use gw_maplang::Walk;
 use gw_profile::Level;
 use std::alloc::{AllocError, Global};
 
@@ -25,73 +26,38 @@ pub(crate) struct ResolvedItem {
     node: usize,
 }
 
-/// The place that an item walks, with the condition there and the rules.
+/// What an item walks: the place, the scope and the condition there, and whether its path leads there. Behind the kept
+/// failures are those of what is within.
 #[derive(Drop)]
-struct Ruled {
+pub(crate) struct Walked<'a, 'p> {
     place: ScopePath,
-    condition: Option<FieldCondition>,
-    rules: Vec<Rule>,
-}
-
-/// The place that a group or a flat walks, whether its path leads there, and the scope there.
-#[derive(Drop)]
-struct Entered<'a, 'p> {
-    place: ScopePath,
-    leads: bool,
     inner: Vec<ScopeNode<'a, 'p>>,
+    condition: Option<FieldCondition>,
+    leads: bool,
+    kept: usize,
 }
 
-// Where the path of a group or a flat leads, with the failures of that path.
-fn enter_path<'a, 'p>(
-    alloc: Global,
-    found: &mut Vec<Failure>,
-    scope: &[ScopeNode<'a, 'p>],
-    line: u32,
-    path: &[Vec<u8>],
-) -> Result<Entered<'a, 'p>, AllocError>
-    ensures place { IfOk result (λ e. seen_place e.place ≡ spec.place_or (walked scope.now) (raw.items_all path.now)) }
-    ensures leads { IfOk result (λ e. e.leads ≡ spec.has_place (spec.place_of (walked scope.now) (raw.items_all path.now))) }
-    ensures inner { IfOk result (λ e. walked e.inner.items ≡ scope_within (walked scope.now) (spec.place_or (walked scope.now) (raw.items_all path.now))) }
-    ensures failures { OnOk result (Notes found.old found.new (spec.walk_failures (walked scope.now) line (raw.items_all path.now))) }
-{
-    let led = lead(alloc, found, scope, line, path, PathUse::Walk)?;
-    let inner = enter(alloc, scope, &led.place)?;
-    Ok(Entered {
-        place: led.place,
-        leads: led.leads,
-        inner,
-    })
-}
-
-// What a segment item walks, and its rules.
-fn rules_walked(
+// What an item walks, with the failures of its path, and behind them those of the condition.
+fn walk_there<'a, 'p>(
     alloc: Global,
     paths: &mut Vec<Failure>,
-    scope: &[ScopeNode<'_, '_>],
-    made: &gw_maplang::FromItem,
-) -> Result<Ruled, AllocError>
-    ensures place { IfOk result (λ r. seen_place r.place ≡ spec.place_or (walked scope.now) (raw.path made.now.walk.path)) }
-    ensures condition { IfOk result (λ r. some_condition r.condition ≡ spec.condition_within (spec.walked_if (walked scope.now) (Some (raw.walk made.now.walk))) (raw.field_condition_some made.now.walk.condition)) }
-    ensures rules { IfOk result (λ r. AreMadeOf rule spec.rule (spec.walked_if (walked scope.now) (Some (raw.walk made.now.walk))) (map raw.rule made.now.rules.items) r.rules.items) }
-    ensures failures { OnOk result (Notes paths.old paths.new (path_failures (walked scope.now) (SegFrom made.now))) }
+    scope: &[ScopeNode<'a, 'p>],
+    line: u32,
+    walk: &Walk,
+    how: PathUse,
+) -> Result<Walked<'a, 'p>, AllocError>
+    ensures { IfOk result (Walks how (walked scope.now) line (raw.walk walk.now) paths.old paths.new) }
 {
-    let led = lead(
-        alloc,
-        paths,
-        scope,
-        made.line,
-        &made.walk.path,
-        PathUse::WalkSegments,
-    )?;
+    let led = lead(alloc, paths, scope, line, &walk.path, how)?;
     let kept = paths.len();
     let inner = enter(alloc, scope, &led.place)?;
-    let condition = field_condition(alloc, paths, &inner, made.line, &made.walk.condition)?;
-    let rules = rules(alloc, paths, &inner, &made.rules)?;
-    hide_unled(paths, led.leads, kept);
-    Ok(Ruled {
+    let condition = field_condition(alloc, paths, &inner, line, &walk.condition)?;
+    Ok(Walked {
         place: led.place,
+        inner,
         condition,
-        rules,
+        leads: led.leads,
+        kept,
     })
 }
 
@@ -137,14 +103,17 @@ fn segment_from(
         made.line,
         &made.label,
     )?;
-    let ruled = rules_walked(alloc, &mut lost.paths, scope, made)?;
-    Ok(segment(
+    let there = walk_there(
+        alloc,
+        &mut lost.paths,
+        scope,
         made.line,
-        aimed,
-        Some(ruled.place),
-        ruled.condition,
-        ruled.rules,
-    ))
+        &made.walk,
+        PathUse::WalkSegments,
+    )?;
+    let rules = rules(alloc, &mut lost.paths, &there.inner, &made.rules)?;
+    hide(&mut lost.paths, there.leads, there.kept);
+    Ok(segment(made.line, aimed, Some(there.place), there.condition, rules))
 }
 
 // An item of one segment.
@@ -184,7 +153,6 @@ fn group(
     ensures { IfOk result (ResolvesItem (walked scope.now) (nodes_in level.entry) j (EachAs made.now) lost.old lost.new) }
 {
     let before = lost.targets.len();
-    let entered = enter_path(alloc, &mut lost.paths, scope, made.line, &made.walk.path)?;
     let aimed = label_target(
         &mut lost.targets,
         level,
@@ -193,23 +161,25 @@ fn group(
         made.line,
         &made.label,
     )?;
-    let kept = mark(lost);
-    let condition = field_condition(
+    let kept = lost.targets.len();
+    let there = walk_there(
         alloc,
         &mut lost.paths,
-        &entered.inner,
+        scope,
         made.line,
-        &made.walk.condition,
+        &made.walk,
+        PathUse::Walk,
     )?;
     let below = nodes_of_child(level, aimed.child);
-    let items = resolve_items(alloc, lost, &entered.inner, below, &made.items)?;
-    hide_both(lost, entered.leads, before, kept);
+    let items = resolve_items(alloc, lost, &there.inner, below, &made.items)?;
+    hide(&mut lost.paths, there.leads, there.kept);
+    hide(&mut lost.targets, kept == before, kept);
     Ok(ResolvedItem {
         item: Item::Group(GroupItem {
             line: made.line,
             child: aimed.child,
-            place: entered.place,
-            condition,
+            place: there.place,
+            condition: there.condition,
             items,
         }),
         node: aimed.node,
@@ -230,23 +200,24 @@ fn flat(
     ensures { IfOk result (ResolvesItem (walked scope.now) (nodes_in level.entry) j (EachFlat made.now) lost.old lost.new) }
 {
     let before = lost.targets.len();
-    let entered = enter_path(alloc, &mut lost.paths, scope, made.line, &made.walk.path)?;
     let node = flat_target(&mut lost.targets, level, j, made.line, &made.items)?;
-    let kept = mark(lost);
-    let condition = field_condition(
+    let kept = lost.targets.len();
+    let there = walk_there(
         alloc,
         &mut lost.paths,
-        &entered.inner,
+        scope,
         made.line,
-        &made.walk.condition,
+        &made.walk,
+        PathUse::Walk,
     )?;
-    let items = resolve_items(alloc, lost, &entered.inner, level, &made.items)?;
-    hide_both(lost, entered.leads, before, kept);
+    let items = resolve_items(alloc, lost, &there.inner, level, &made.items)?;
+    hide(&mut lost.paths, there.leads, there.kept);
+    hide(&mut lost.targets, kept == before, kept);
     Ok(ResolvedItem {
         item: Item::Flat(FlatItem {
             line: made.line,
-            place: entered.place,
-            condition,
+            place: there.place,
+            condition: there.condition,
             items,
         }),
         node,

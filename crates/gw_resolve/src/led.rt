@@ -9,7 +9,7 @@ ghost use Rattle.gw_resolve.specs.Order.{is_segment};
 ghost use Rattle.gw_resolve.specs.Places as places;
 ghost use Rattle.gw_resolve.specs.Seen.{Notes, element as seen, scope as walked, place as seen_place};
 
-use crate::element::{ScopeNode, child, element_at, nodes_of, nodes_of_child};
+use crate::element::{ScopeNode, child, element_at, nodes_of, nodes_of_child, outer};
 use crate::failure::{Failure, at_line, note};
 use crate::paths::{or_itself, place_of};
 use crate::resolved::ScopePath;
@@ -55,10 +55,9 @@ fn comes_often<'a, 'p>(level: Option<&'a Level<'p>>, number: usize) -> bool
 }
 
 // No step may come more than once.
-fn are_single<'a, 'p>(level: Option<&'a Level<'p>>, steps: &[usize]) -> bool
+fn are_single<'a, 'p>(mut level: Option<&'a Level<'p>>, steps: &[usize]) -> bool
     ensures { result ≡ spec.are_single (nodes_in level.entry) steps.now }
 {
-    let mut level = level;
     for step in steps {
         if comes_often(level, *step) {
             return false;
@@ -81,10 +80,7 @@ fn but_last(steps: &[usize]) -> &[usize]
 fn start_of<'a, 'p>(scope: &[ScopeNode<'a, 'p>], place: &ScopePath) -> Option<&'a Level<'p>>
     ensures { nodes_in result ≡ spec.start_of (walked scope.now) (seen_place place.now) }
 {
-    if place.out >= scope.len() {
-        return None;
-    }
-    nodes_of(scope[scope.len() - 1 - place.out])
+    nodes_of(outer(scope, place.out)?)
 }
 
 // The steps that may not come often: of what is walked all but the last.
@@ -92,8 +88,7 @@ fn single_steps(how: PathUse, steps: &[usize]) -> &[usize]
     ensures { result.now ≡ single_steps how steps.now }
 {
     match how {
-        PathUse::Walk => but_last(steps),
-        PathUse::WalkSegments => but_last(steps),
+        PathUse::Walk | PathUse::WalkSegments => but_last(steps),
         PathUse::Read => steps,
     }
 }
@@ -113,11 +108,7 @@ fn is_once(how: PathUse, scope: &[ScopeNode<'_, '_>], place: Option<&ScopePath>)
 fn is_segment(element: ScopeNode<'_, '_>) -> bool
     ensures { result ≡ is_segment (Some (seen element.entry)) }
 {
-    match element {
-        ScopeNode::Segment(_) => true,
-        ScopeNode::Group(_, _) => false,
-        ScopeNode::Whole(_) => false,
-    }
+    matches!(element, ScopeNode::Segment(_))
 }
 
 /// Whether the place is that of a segment.
@@ -138,8 +129,7 @@ fn leads(how: PathUse, scope: &[ScopeNode<'_, '_>], place: Option<&ScopePath>) -
 {
     match how {
         PathUse::Walk => place.is_some(),
-        PathUse::WalkSegments => ends_at_segment(scope, place),
-        PathUse::Read => ends_at_segment(scope, place),
+        PathUse::WalkSegments | PathUse::Read => ends_at_segment(scope, place),
     }
 }
 

@@ -1,10 +1,10 @@
 //! The looking up of the labels of a map.
 ghost use Rattle.std.specs.Prelude.{◌≡◌, ◌++◌, if◌then◌else◌, is_some, not, map, flat_map, IfOk, OnOk};
-ghost use Rattle.gw_profile.specs.Seen.{forest, profile_value};
+ghost use Rattle.gw_profile.specs.Seen.{profile_value};
 ghost use Rattle.gw_maplang.specs.Seen as raw;
 ghost use Rattle.gw_resolve.specs.own.Looking.{place_there};
 ghost use Rattle.gw_resolve.specs.Naming as spec;
-ghost use Rattle.gw_resolve.specs.Outcome.{Resolves, ResolvesBy};
+ghost use Rattle.gw_resolve.specs.Outcome.{Resolves};
 ghost use Rattle.gw_resolve.specs.Seen.{Notes, element as seen, scope as walked, failures, left_out};
 
 use crate::element::ScopeNode;
@@ -90,29 +90,6 @@ fn all_lost(lost: NameFailures) -> Result<Vec<Failure>, AllocError>
     Ok(found)
 }
 
-// The labels of a map, looked up in these levels.
-fn resolve_in(
-    alloc: Global,
-    source: &Level<'_>,
-    target: &Level<'_>,
-    map: &Map,
-) -> Result<Resolving, AllocError>
-    ensures { IfOk result (ResolvesBy (forest source.now) (forest target.now) (raw.map_value map.now)) }
-{
-    let mut lost = NameFailures {
-        paths: Vec::new(alloc),
-        targets: Vec::new(alloc),
-    };
-    let message = ScopeNode::Whole(Some(source));
-    let items = resolve_items(alloc, &mut lost, &[message], Some(target), map.items())?;
-    let drops = all_left_out(alloc, &mut lost.paths, message, map.drops())?;
-    let found = all_lost(lost)?;
-    if found.as_slice().is_empty() {
-        return Ok(Resolving::Resolved(ResolvedMap { items, drops }));
-    }
-    Ok(Resolving::Refused(found))
-}
-
 /// Looks the labels of a map up in its profiles, whose levels these are, each once. The one error is allocation failure.
 pub fn resolve(
     alloc: Global,
@@ -126,5 +103,16 @@ pub fn resolve(
     requires target { to.now ≡ target.now.nodes }
     ensures { IfOk result (Resolves (profile_value source.now) (profile_value target.now) (raw.map_value map.now)) }
 {
-    resolve_in(alloc, from, to, map)
+    let mut lost = NameFailures {
+        paths: Vec::new(alloc),
+        targets: Vec::new(alloc),
+    };
+    let message = ScopeNode::Whole(Some(from));
+    let items = resolve_items(alloc, &mut lost, &[message], Some(to), map.items())?;
+    let drops = all_left_out(alloc, &mut lost.paths, message, map.drops())?;
+    let found = all_lost(lost)?;
+    if found.as_slice().is_empty() {
+        return Ok(Resolving::Resolved(ResolvedMap { items, drops }));
+    }
+    Ok(Resolving::Refused(found))
 }

@@ -3,7 +3,7 @@ ghost use Rattle.std.specs.Prelude.{◌≡◌, ℕ, ◌++◌, IfOk, option_map, 
 ghost use Rattle.std.specs.Global.{Vec};
 ghost use Rattle.gw_maplang.specs.Seen.{items_all};
 ghost use Rattle.gw_resolve.specs.Naming as spec;
-ghost use Rattle.gw_resolve.specs.own.Looking.{inwards, further, begun, onwards, AreStepsBehind};
+ghost use Rattle.gw_resolve.specs.own.Looking.{further, begun, onwards, AreStepsBehind};
 ghost use Rattle.gw_profile.specs.Labels.{nodes_in, labelled as spec_labelled};
 ghost use Rattle.gw_resolve.specs.Seen.{element as seen, scope as walked, place as seen_place};
 
@@ -23,10 +23,7 @@ pub(crate) fn same(one: &[u8], other: &[u8]) -> bool
 pub(crate) fn labelled<'a, 'p>(level: Option<&'a Level<'p>>, label: &[u8]) -> Option<usize>
     ensures { result ≡ spec_labelled (nodes_in level.entry) label.now }
 {
-    match level {
-        None => None,
-        Some(level) => level.number_of(label),
-    }
+    level?.number_of(label)
 }
 
 // Whether this is the element's own label.
@@ -40,23 +37,6 @@ fn has_label(element: ScopeNode<'_, '_>, label: &[u8]) -> bool
     }
 }
 
-fn itself(alloc: Global, out: usize) -> ScopePath
-    ensures { seen_place result ≡ further out spec.itself }
-{
-    ScopePath {
-        out,
-        steps: Vec::new(alloc),
-    }
-}
-
-fn one_step(alloc: Global, out: usize, number: usize) -> Result<ScopePath, AllocError>
-    ensures { IfOk result (λ p. seen_place p ≡ further out (inwards number)) }
-{
-    let mut steps = Vec::new(alloc);
-    steps.push(number)?;
-    Ok(ScopePath { out, steps })
-}
-
 // The label among the nodes of an element so far outwards, or its own.
 fn begin(
     alloc: Global,
@@ -66,12 +46,13 @@ fn begin(
 ) -> Result<Option<ScopePath>, AllocError>
     ensures { IfOk result (λ p. option_map seen_place p ≡ option_map (further out) (begun (seen element.entry) label.now)) }
 {
+    let mut steps = Vec::new(alloc);
     if let Some(number) = labelled(nodes_of(element), label) {
-        let place = one_step(alloc, out, number)?;
-        return Ok(Some(place));
+        steps.push(number)?;
+        return Ok(Some(ScopePath { out, steps }));
     }
     if has_label(element, label) {
-        return Ok(Some(itself(alloc, out)));
+        return Ok(Some(ScopePath { out, steps }));
     }
     Ok(None)
 }
@@ -97,14 +78,12 @@ fn first_label(
 
 // The numbers of nodes to which the labels lead, each within the one before it, behind these.
 fn follow<'a, 'p>(
-    level: Option<&'a Level<'p>>,
+    mut level: Option<&'a Level<'p>>,
     path: &[Vec<u8>],
-    steps: Vec<usize>,
+    mut steps: Vec<usize>,
 ) -> Result<Option<Vec<usize>>, AllocError>
     ensures { IfOk result (AreStepsBehind steps.items (nodes_in level.entry) (items_all path.now)) }
 {
-    let mut level = level;
-    let mut steps = steps;
     for label in path {
         let Some(number) = labelled(level, label) else {
             return Ok(None);
@@ -124,14 +103,13 @@ fn follow_from(
     ensures { IfOk result (λ p. option_map seen_place p ≡ onwards (walked scope.now) (items_all path.now) (seen_place place)) }
 {
     let level = nodes_of(element_at(scope, &place));
-    let steps = follow(level, path, place.steps)?;
-    match steps {
-        None => Ok(None),
-        Some(steps) => Ok(Some(ScopePath {
-            out: place.out,
-            steps,
-        })),
-    }
+    let Some(steps) = follow(level, path, place.steps)? else {
+        return Ok(None);
+    };
+    Ok(Some(ScopePath {
+        out: place.out,
+        steps,
+    }))
 }
 
 /// The place to which a path leads.
@@ -155,8 +133,8 @@ pub(crate) fn place_of(
 pub(crate) fn or_itself(alloc: Global, place: Option<ScopePath>) -> ScopePath
     ensures { seen_place result ≡ unwrap_or (option_map seen_place place) spec.itself }
 {
-    match place {
-        None => itself(alloc, 0),
-        Some(place) => place,
-    }
+    place.unwrap_or(ScopePath {
+        out: 0,
+        steps: Vec::new(alloc),
+    })
 }

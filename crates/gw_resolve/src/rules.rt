@@ -83,22 +83,6 @@ fn leaf(
     }
 }
 
-fn other(
-    alloc: Global,
-    found: &mut Vec<Failure>,
-    scope: &[ScopeNode<'_, '_>],
-    made: &gw_maplang::Alternative,
-) -> Result<Alternative, AllocError>
-    ensures made { IfOk result (IsMadeOf seen.alternative spec.alternative (walked scope.now) (raw.alternative made.now)) }
-    ensures failures { OnOk result (Notes found.old found.new (spec.other_failures (walked scope.now) (raw.alternative made.now))) }
-{
-    let leaf = leaf(alloc, found, scope, made.line, &made.leaf)?;
-    Ok(Alternative {
-        line: made.line,
-        leaf,
-    })
-}
-
 fn others(
     alloc: Global,
     found: &mut Vec<Failure>,
@@ -110,8 +94,11 @@ fn others(
 {
     let mut built = Vec::new(alloc);
     for made in all {
-        let one = other(alloc, found, scope, made)?;
-        built.push(one)?;
+        let leaf = leaf(alloc, found, scope, made.line, &made.leaf)?;
+        built.push(Alternative {
+            line: made.line,
+            leaf,
+        })?;
     }
     Ok(built)
 }
@@ -238,23 +225,6 @@ fn making(
     }
 }
 
-fn rule(
-    alloc: Global,
-    found: &mut Vec<Failure>,
-    scope: &[ScopeNode<'_, '_>],
-    made: &gw_maplang::Rule,
-) -> Result<Rule, AllocError>
-    ensures made { IfOk result (IsMadeOf seen.rule spec.rule (walked scope.now) (raw.rule made.now)) }
-    ensures failures { OnOk result (Notes found.old found.new (spec.rule_failures (walked scope.now) (raw.rule made.now))) }
-{
-    let making = making(alloc, found, scope, made)?;
-    Ok(Rule {
-        line: made.line(),
-        field: made.field(),
-        making,
-    })
-}
-
 /// Rules without labels, and the failures of what they read.
 pub(crate) fn rules(
     alloc: Global,
@@ -267,8 +237,12 @@ pub(crate) fn rules(
 {
     let mut built = Vec::new(alloc);
     for made in all {
-        let one = rule(alloc, found, scope, made)?;
-        built.push(one)?;
+        let making = making(alloc, found, scope, made)?;
+        built.push(Rule {
+            line: made.line(),
+            field: made.field(),
+            making,
+        })?;
     }
     Ok(built)
 }

@@ -112,10 +112,7 @@ fn child_if<'a, 'p>(
 ) -> Option<ScopeNode<'a, 'p>>
     ensures { option_map seen result ≡ option_and_then (places.child (nodes_in level.entry)) number }
 {
-    match number {
-        None => None,
-        Some(number) => child(level, number),
-    }
+    child(level, number?)
 }
 
 // Whether the node is of this kind.

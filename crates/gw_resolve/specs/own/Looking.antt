@@ -1,19 +1,21 @@
 -- Parts of the looking up of labels.
-use Rattle.std.specs.Prelude.{◌≡◌, ℕ, ◌+◌, Bool, not, if◌then◌else◌, List, [], ◌∷◌, ◌++◌, Option, Some, None, option_map}
+use Rattle.std.specs.Prelude.{◌≡◌, ℕ, ◌+◌, Bool, not, if◌then◌else◌, length, List, [], ◌∷◌, ◌++◌, Option, Some, None, option_map}
 use Rattle.std.specs.Global.{Vec}
 use Rattle.gw_profile.specs.Shapes.{Forest}
-use Rattle.gw_maplang.specs.Shapes.{Path, Walk, Items}
+use Rattle.gw_maplang.specs.Shapes.{Path, Walk}
 use Rattle.gw_resolve.specs.Places.{Element, nodes_of, Place, Found, card_of, times, found, element_of, within}
 use denote.Ref.{Bor}
 use Rattle.gw_resolve.specs.declared.element.CountedNode.{CountedNode as TheFound}
+use Rattle.gw_resolve.specs.declared.failure.Failure.{Failure as Noted}
+use Rattle.gw_resolve.specs.declared.items.Walked.{Walked}
 use Rattle.gw_resolve.specs.declared.resolved.ScopePath as places
-use Rattle.gw_resolve.specs.Seen.{place, found_value, saturated_found}
+use Rattle.gw_resolve.specs.Seen.{place, scope, some_condition, failures, found_value, saturated_found}
 use Rattle.gw_profile.specs.Labels.{labelled}
-use Rattle.gw_resolve.specs.Failures.{Failure, at_line, fails, where_so}
+use Rattle.gw_resolve.specs.Failures.{Failure, at_line, fails}
 use Rattle.gw_resolve.specs.Order.{is_segment, is_group}
 use Rattle.gw_resolve.specs.declared.led.PathUse as uses
 use Rattle.gw_resolve.specs.declared.targets.NodeKind as kinds
-use Rattle.gw_resolve.specs.Naming.{has_label, itself, or_else, steps_of, place_of, place_or, but_last, has_place, ends_at_segment, is_single_place, walk_failures, condition_failures, path_failures}
+use Rattle.gw_resolve.specs.Naming.{has_label, itself, or_else, steps_of, place_of, place_or, but_last, has_place, ends_at_segment, is_single_place, condition_within, condition_failures}
 
 -- the node of this number of the innermost element
 abbrev pub inwards : ℕ → Place
@@ -33,13 +35,6 @@ onwards scope labels p = option_map (λ steps. record p { steps = p.steps ++ ste
 abbrev pub place_there : Option (Bor places.ScopePath) → Option Place
 place_there p = option_map (λ (b : Bor places.ScopePath). place b.now) p
 
--- the failures of a path that is walked, and of its condition and the items within
-abbrev pub each_within : List Element → ℕ → Walk → Items → List Failure
-each_within scope line walk items =
-    walk_failures scope line walk.path
-    ++ where_so (has_place (place_of scope walk.path))
-    (condition_failures (within scope (place_or scope walk.path)) line walk.condition ++ path_failures (within scope (place_or scope walk.path)) items)
-
 -- the steps that may not come often: of what is walked all but the last
 abbrev pub single_steps : uses.PathUse → List ℕ → List ℕ
 single_steps uses.TheVariants.Walk = but_last
@@ -55,6 +50,15 @@ leads uses.TheVariants.Read scope place = ends_at_segment scope place
 abbrev pub lead_failures : uses.PathUse → List Element → ℕ → Path → List Failure
 lead_failures how scope line path =
     fails 1 (at_line line) (not (leads how scope (place_of scope path))) ++ fails 2 (at_line line) (not (is_single_place scope (single_steps how) (place_of scope path)))
+
+-- what an item walks, and the failures of its path, which are kept, and of its condition
+pub record Walks (how : uses.PathUse) (outer : List Element) (line : ℕ) (walk : Walk) (old new : Vec Noted) (made : Walked) : Type 0 where
+  pub place : place made.place ≡ place_or outer walk.path
+  pub inner : scope made.inner.items ≡ within outer (place_or outer walk.path)
+  pub condition : some_condition made.condition ≡ condition_within (within outer (place_or outer walk.path)) walk.condition
+  pub leads : made.leads ≡ leads how outer (place_of outer walk.path)
+  pub kept : length (failures old.items ++ lead_failures how outer line walk.path) ≡ made.kept
+  pub failures : failures new.items ≡ (failures old.items ++ lead_failures how outer line walk.path) ++ condition_failures (within outer (place_or outer walk.path)) line walk.condition
 
 -- what a label of an item names
 abbrev pub is_kind : kinds.NodeKind → Option Element → Bool

@@ -1,4 +1,4 @@
-use Rattle.std.proofs.Common.{◌≡◌, ℕ, ◌≤◌, List, [], ◌∷◌, Option, refl, sym, ap, ◌∙◌, length, get_or, subst, arith}
+use Rattle.std.proofs.Common.{◌≡◌, ℕ, ◌≤◌, List, [], ◌∷◌, Option, sym, ap, ◌∙◌, length, get_or, subst, arith}
 use Rattle.gw_resolve.specs.declared.resolved.FlatItem.{FlatItem}
 use Rattle.gw_resolve.specs.declared.resolved.Item.{Item, Segment, Flat, Group', Flat'}
 use Rattle.gw_resolve.specs.Resolved.{no_items, first_child}
@@ -11,17 +11,11 @@ child_flat i f is c same items first tables =
     first tables ∙ ap (λ l. first_child (all_items tables l)) items
     ∙ sym (ap first_child (ap (λ j. with_item tables j no_items) same ∙ flat_items tables f no_items))
 
-child_first : (i : Item) (is : List Item) (c : Option ℕ) → ChildOf i c → FirstChild (i ∷ is) c
-child_first i is c h tables = h tables ∙ go i
-  where
-    go : (i : Item) → first_child (with_item tables i no_items) ≡ first_child (with_item tables i (all_items tables is))
-    go (Segment s) = refl
-    go (Group' line child from asked shape row) = refl
-    go (Flat' line from asked shape row) = refl
-
 child_at_first : (items : List Item) (i : Item) (c : Option ℕ) → 1 ≤ length items → i ≡ get_or items 0 i → ChildOf i c → FirstChild items c
 child_at_first [] i c some is h = absurd (omega (arith, some))
-child_at_first (x ∷ items) i c some is h = child_first x items c (subst (λ j. ChildOf j c) is h)
+child_at_first (Segment s ∷ items) i c some is h = subst (λ j. ChildOf j c) is h
+child_at_first (Group' line child from asked shape row ∷ items) i c some is h = subst (λ j. ChildOf j c) is h
+child_at_first (Flat' line from asked shape row ∷ items) i c some is h = subst (λ j. ChildOf j c) is h
 
 pub child_of-returns-in-Flat : goal.child_of-returns-in-Flat
 child_of-returns-in-Flat t c = child_flat c.args.item.now c.in-Flat.flat c.deref.result.now c.first_child.result c.in-Flat.is c.deref.ensures.value c.first_child.ensures

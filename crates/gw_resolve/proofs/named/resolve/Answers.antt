@@ -1,18 +1,37 @@
-use Rattle.std.proofs.Common.{◌≡◌, Result, Ok, Err, IfOk, sym, ap}
-use Rattle.gw_profile.specs.Seen.{forest, profile_value}
-use Rattle.gw_profile.specs.Shapes.{Forest, ProfileValue}
-use Rattle.gw_maplang.specs.Seen.{map_value}
-use Rattle.gw_maplang.specs.Shapes.{MapValue}
-use Rattle.gw_resolve.specs.Outcome.{Resolves, ResolvesBy}
-use Rattle.gw_resolve.specs.declared.named.Resolving as resolving
+use Rattle.std.proofs.Common.{[], ◌∷◌, ◌++◌, ◌==◌, length, map, flat_map, sym, ap, ◌∙◌, true≢false}
+use Rattle.gw_profile.specs.Seen.{forest}
+use Rattle.gw_maplang.specs.Seen.{all_items}
+use Rattle.gw_resolve.specs.Places.{the_whole}
+use Rattle.gw_resolve.specs.Naming as spec
+use Rattle.gw_resolve.specs.Seen.{failures}
+use Rattle.gw_resolve.proofs.Noting.{empty, named_all}
 use Rattle.gw_resolve.proofs.named.resolve.Goals as goal
 
--- what the levels of two profiles give is what the profiles give
-resolves_both : {E : Type 0} (from to : ProfileValue) (m : MapValue) (source target : Forest) (r : Result resolving.Resolving E) → from.nodes ≡ source → to.nodes ≡ target → IfOk r (ResolvesBy source target m) → IfOk r (Resolves from to m)
-resolves_both from to m source target (Ok made) e f h = h from to e f
-resolves_both from to m source target (Err x) e f h = tt
+pub returns-then-is_empty : goal.returns-then-is_empty
+returns-then-is_empty c =
+    let here = ap forest c.requires.source in
+    let there = ap forest c.requires.target in
+    let told = named_all _ _ _ _ _ _ _ _ _ c.in_ok-found.ensures (ap failures c.new.ensures.items) (ap failures c.new-2.ensures.items) c.in_ok-items.ensures.paths c.in_ok-drops.ensures.failures c.in_ok-items.ensures.targets in
+    record {
+      none =
+          sym
+          (told
+          ∙ (λ i. spec.path_failures (the_whole (here i) ∷ []) (all_items (c.items.ensures.value i)) ++ flat_map (spec.drop_failures (the_whole (here i))) (c.drops.ensures i) ++ spec.target_failures (there i) 0 (all_items (c.items.ensures.value i))))
+          ∙ ap failures (empty c.in_ok-found.found.items c.as_slice.result.now c.as_slice.ensures.value (sym c.is_empty.ensures ∙ c.if-is_empty.true));
+      items =
+          c.in_ok-items.ensures.items c.args.map.now.tables
+          ∙ (λ i. spec.resolved_items c.args.map.now.tables (the_whole (here i) ∷ []) (there i) (all_items (c.items.ensures.value i)));
+      drops = c.in_ok-drops.ensures.made ∙ (λ i. map (spec.drop (the_whole (here i))) (c.drops.ensures i));
+    }
 
 pub returns : goal.returns
 returns c =
-    resolves_both (profile_value c.args.source.now) (profile_value c.args.target.now) (map_value c.args.map.now) _ _ c.resolve_in.result
-    (sym (ap forest c.requires.source)) (sym (ap forest c.requires.target)) c.resolve_in.ensures
+    let here = ap forest c.requires.source in
+    let there = ap forest c.requires.target in
+    let told = named_all _ _ _ _ _ _ _ _ _ c.in_ok-found.ensures (ap failures c.new.ensures.items) (ap failures c.new-2.ensures.items) c.in_ok-items.ensures.paths c.in_ok-drops.ensures.failures c.in_ok-items.ensures.targets in
+    record {
+      all =
+          told
+          ∙ (λ i. spec.path_failures (the_whole (here i) ∷ []) (all_items (c.items.ensures.value i)) ++ flat_map (spec.drop_failures (the_whole (here i))) (c.drops.ensures i) ++ spec.target_failures (there i) 0 (all_items (c.items.ensures.value i)));
+      some = λ none. true≢false (sym (ap (λ l. length l == 0) (c.as_slice.ensures.value ∙ none)) ∙ sym c.is_empty.ensures ∙ c.if-is_empty.false);
+    }

@@ -1,11 +1,11 @@
 use Rattle.std.proofs.Common.{sym, ◌∙◌}
 use Rattle.gw_profile.specs.Shapes.{nothing}
 use Rattle.gw_profile.specs.Seen.{forest, node_forest}
-use Rattle.gw_resolve.proofs.Children.{child_at, child_past, same_within, none_within}
+use Rattle.gw_resolve.proofs.Children.{child_at, child_past, same_within}
 use Rattle.gw_resolve.proofs.nodes.nodes_within.Goals as goal
 
 pub returns-in-None : goal.returns-in-None
-returns-in-None c = sym (none_within (forest c.args.nodes.now) c.args.number (child_past c.args.nodes.now c.args.number (sym c.in-None.ensures.lookup.0)))
+returns-in-None c = sym (same_within (forest c.args.nodes.now) nothing c.args.number 0 (child_past c.args.nodes.now c.args.number (sym c.in-None.ensures.lookup.0)))
 
 pub returns-in-Some : goal.returns-in-Some
 returns-in-Some c =

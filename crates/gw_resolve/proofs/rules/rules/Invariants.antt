@@ -1,13 +1,9 @@
-use Rattle.std.proofs.Common.{List}
-use Rattle.gw_maplang.specs.Shapes.{TableValue}
 use Rattle.gw_maplang.specs.Seen as raw
 use Rattle.gw_resolve.specs.Naming as spec
-use Rattle.gw_resolve.specs.Seen.{scope, rule, failures}
-use Rattle.gw_resolve.proofs.Listing.{Makes, Tells}
+use Rattle.gw_resolve.specs.Seen.{scope, rule}
+use Rattle.gw_resolve.proofs.Listing.{Lists}
 use Rattle.gw_resolve.proofs.rules.rules.Given as goal
 
 abbrev pub invariant-loop-made : goal.invariant-loop-made
-invariant-loop-made l = record {
-  made : (tables : List TableValue) → Makes (spec.rule tables (scope l.scope)) raw.rule (rule tables) l.all l.made-index l.built.items;
-  failures : Tells (spec.rule_failures (scope l.scope)) raw.rule (failures l.initial.found.items) (failures l.found.items) l.made-index l.all;
-}
+invariant-loop-made l =
+    Lists (λ tables. spec.rule tables (scope l.scope)) (spec.rule_failures (scope l.scope)) raw.rule rule l.initial.found.items l.found.items l.all l.made-index l.built.items
