@@ -4,13 +4,12 @@ ghost use Rattle.gw_profile.specs.Labels.{inner, nodes_in};
 ghost use Rattle.gw_profile.specs.Seen.{forest, node_forest};
 ghost use Rattle.gw_profile.specs.Shapes.{nothing};
 ghost use Rattle.gw_resolve.specs.Places as spec;
-ghost use Rattle.gw_resolve.specs.Intervals.{of_card};
-ghost use Rattle.gw_resolve.specs.Seen.{element as seen, scope as walked, place as seen_place, interval, saturated, saturated_found, found_value};
+ghost use Rattle.gw_resolve.specs.Seen.{element as seen, scope as walked, place as seen_place, saturated_found, found_value};
 ghost use Rattle.gw_resolve.specs.own.Looking.{IsTimes};
 
 use crate::interval::{Interval, once};
 use crate::resolved::ScopePath;
-use gw_profile::{GroupNode, Level, Node, SegNode};
+use gw_profile::{Card, GroupNode, Level, Node, SegNode};
 use std::alloc::{AllocError, Global};
 
 /// A segment, a group with its level, or the level of the whole profile, None where nothing stands.
@@ -42,6 +41,7 @@ fn of_node<'a, 'p>(node: &'a Node, level: Option<&'a Level<'p>>) -> ScopeNode<'a
 }
 
 // The node of this number.
+#[tactic(auto, using(crate::proofs::Children::child_past, crate::proofs::Children::child_at, crate::proofs::Children::within_at))]
 fn node_at<'a, 'p>(level: &'a Level<'p>, number: usize) -> Option<ScopeNode<'a, 'p>>
     ensures { option_map seen result ≡ spec.child (forest level.now) number }
 {
@@ -81,14 +81,17 @@ pub(crate) fn nodes_of_child<'a, 'p>(
     nodes_of(child(level, number)?)
 }
 
-// How often an element comes; the whole comes once.
-fn count_of(element: ScopeNode<'_, '_>) -> Interval
-    ensures { interval result ≡ saturated (of_card (spec.card_of (seen element.entry))) }
+/// How often an element may come; the whole comes once.
+pub(crate) fn card_of(element: ScopeNode<'_, '_>) -> Card
+    ensures { result ≡ spec.card_of (seen element.entry) }
 {
     match element {
-        ScopeNode::Segment(segment) => Interval::of(segment.card),
-        ScopeNode::Group(group, _) => Interval::of(group.card),
-        ScopeNode::Whole(_) => once(),
+        ScopeNode::Segment(segment) => segment.card,
+        ScopeNode::Group(group, _) => group.card,
+        ScopeNode::Whole(_) => Card {
+            min: 1,
+            max: Some(1),
+        },
     }
 }
 
@@ -104,12 +107,13 @@ fn times<'a, 'p>(
     let below = below?;
     Some(CountedNode {
         element: below.element,
-        count: count_of(element).times(below.count),
+        count: Interval::of(card_of(element)).times(below.count),
     })
 }
 
 // What stands where this step and the others lead.
 #[cycle(below)]
+#[tactic(auto, using(crate::proofs::Finding::below_there, crate::proofs::Finding::below_missing))]
 fn step<'a, 'p>(
     element: ScopeNode<'a, 'p>,
     first: usize,
@@ -146,6 +150,7 @@ pub(crate) fn outer<'a, 'p>(scope: &[ScopeNode<'a, 'p>], out: usize) -> Option<S
 }
 
 /// What stands at a place, seen from the elements that are walked, the innermost last. It takes no memory.
+#[tactic(auto, using(crate::proofs::Finding::in_scope))]
 pub fn find<'a, 'p>(scope: &[ScopeNode<'a, 'p>], place: &ScopePath) -> Option<CountedNode<'a, 'p>>
     ensures { found_value result ≡ saturated_found (spec.found (walked scope.now) (seen_place place.now)) }
 {
@@ -153,6 +158,7 @@ pub fn find<'a, 'p>(scope: &[ScopeNode<'a, 'p>], place: &ScopePath) -> Option<Co
 }
 
 /// The element at a place, where one is.
+#[tactic(auto, using(crate::proofs::Finding::same_element))]
 pub(crate) fn element_at<'a, 'p>(
     scope: &[ScopeNode<'a, 'p>],
     place: &ScopePath,

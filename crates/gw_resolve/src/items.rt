@@ -117,6 +117,7 @@ fn segment_from(
 }
 
 // An item of one segment.
+#[tactic(auto, using(crate::proofs::Noting::rules_paths, crate::proofs::Targeting::label_targets))]
 fn segment_always(
     alloc: Global,
     lost: &mut NameFailures,

@@ -9,7 +9,7 @@ ghost use Rattle.gw_resolve.specs.Order.{is_segment};
 ghost use Rattle.gw_resolve.specs.Places as places;
 ghost use Rattle.gw_resolve.specs.Seen.{Notes, element as seen, scope as walked, place as seen_place};
 
-use crate::element::{ScopeNode, child, element_at, nodes_of, nodes_of_child, outer};
+use crate::element::{ScopeNode, card_of, child, element_at, nodes_of, nodes_of_child, outer};
 use crate::failure::{Failure, at_line, note};
 use crate::paths::{or_itself, place_of};
 use crate::resolved::ScopePath;
@@ -48,9 +48,7 @@ fn comes_often<'a, 'p>(level: Option<&'a Level<'p>>, number: usize) -> bool
 {
     match child(level, number) {
         None => false,
-        Some(ScopeNode::Segment(segment)) => allows_two(segment.card),
-        Some(ScopeNode::Group(group, _)) => allows_two(group.card),
-        Some(ScopeNode::Whole(_)) => false,
+        Some(element) => allows_two(card_of(element)),
     }
 }
 
@@ -67,6 +65,7 @@ fn are_single<'a, 'p>(mut level: Option<&'a Level<'p>>, steps: &[usize]) -> bool
     true
 }
 
+#[tactic(auto, using(crate::proofs::Noting::all_but_last))]
 fn but_last(steps: &[usize]) -> &[usize]
     ensures { result.now ≡ spec.but_last steps.now }
 {

@@ -17,6 +17,7 @@ fn within_node(node: &Node) -> &[Node]
 }
 
 /// The nodes within the node of this number. It takes no memory.
+#[tactic(auto, using(crate::proofs::Children::child_past, crate::proofs::Children::child_at))]
 pub fn nodes_within(nodes: &[Node], number: usize) -> &[Node]
     ensures { forest result.now ≡ places.nodes_of_child (forest nodes.now) number }
 {
@@ -36,6 +37,7 @@ fn fields_of(node: &Node) -> &[FieldShape]
 }
 
 /// The fields of the target node of this number; none where it is a group, or there is no such node. It takes no memory.
+#[tactic(auto, using(crate::proofs::Children::child_past, crate::proofs::Children::child_at))]
 pub fn fields_at(nodes: &[Node], number: usize) -> &[FieldShape]
     ensures { map field result.now ≡ places.fields_of (places.child (forest nodes.now) number) }
 {

@@ -77,6 +77,7 @@ fn first_label(
 }
 
 // The numbers of nodes to which the labels lead, each within the one before it, behind these.
+#[tactic(auto, using(crate::proofs::Following::steps_all, crate::proofs::Following::steps_next, crate::proofs::Following::steps_missing))]
 fn follow<'a, 'p>(
     mut level: Option<&'a Level<'p>>,
     path: &[Vec<u8>],
@@ -113,6 +114,7 @@ fn follow_from(
 }
 
 /// The place to which a path leads.
+#[tactic(auto, using(crate::proofs::Following::no_path, crate::proofs::Following::placed))]
 pub(crate) fn place_of(
     alloc: Global,
     scope: &[ScopeNode<'_, '_>],

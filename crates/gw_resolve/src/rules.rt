@@ -103,25 +103,6 @@ fn others(
     Ok(built)
 }
 
-fn at_leaf(
-    alloc: Global,
-    found: &mut Vec<Failure>,
-    scope: &[ScopeNode<'_, '_>],
-    made: &LeafRule,
-) -> Result<At, AllocError>
-    ensures made { IfOk result (IsMadeOf seen.at_leaf spec.at_leaf (walked scope.now) (raw.leaf_value made.now)) }
-    ensures failures { OnOk result (Notes found.old found.new (spec.leaf_failures (walked scope.now) (raw.leaf_value made.now))) }
-{
-    let leaf = leaf(alloc, found, scope, made.line, &made.leaf)?;
-    let others = others(alloc, found, scope, &made.others)?;
-    Ok(At {
-        line: made.line,
-        place: made.place,
-        leaf,
-        others,
-    })
-}
-
 fn leaves(
     alloc: Global,
     found: &mut Vec<Failure>,
@@ -133,8 +114,14 @@ fn leaves(
 {
     let mut built = Vec::new(alloc);
     for made in all {
-        let one = at_leaf(alloc, found, scope, made)?;
-        built.push(one)?;
+        let leaf = leaf(alloc, found, scope, made.line, &made.leaf)?;
+        let others = others(alloc, found, scope, &made.others)?;
+        built.push(At {
+            line: made.line,
+            place: made.place,
+            leaf,
+            others,
+        })?;
     }
     Ok(built)
 }

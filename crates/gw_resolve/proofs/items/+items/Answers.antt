@@ -54,20 +54,6 @@ flat-returns t c =
           (flat_targets (nodes_in c.args.level) c.args.j c.args.made.now _ _ c.deref.ensures.value c.deref-3.ensures.value);
     }
 
--- ---- an item of any kind
-
-pub resolve_item-returns-in-SegFrom : goal.resolve_item-returns-in-SegFrom
-resolve_item-returns-in-SegFrom t c = rw c.in-SegFrom.is c.segment_from.ensures
-
-pub resolve_item-returns-in-SegAlways : goal.resolve_item-returns-in-SegAlways
-resolve_item-returns-in-SegAlways t c = rw c.in-SegAlways.is c.segment_always.ensures
-
-pub resolve_item-returns-in-EachAs : goal.resolve_item-returns-in-EachAs
-resolve_item-returns-in-EachAs t c = rw c.in-EachAs.is c.group.ensures
-
-pub resolve_item-returns-in-EachFlat : goal.resolve_item-returns-in-EachFlat
-resolve_item-returns-in-EachFlat t c = rw c.in-EachFlat.is c.flat.ensures
-
 -- ---- one item after the other
 
 pub resolve_items-loop-item-preserved : goal.resolve_items-loop-item-preserved
