@@ -20,7 +20,7 @@ pub flat_labels : (item : Item) (f : FlatItem) (items : List Item) → item ≡ 
 flat_labels item f items is e =
     ap (λ l. labels (all_items l)) e ∙ sym (append-nil (labels (all_items f.items.items))) ∙ sym (ap labels (ap (λ x. with_item x nothing) is ∙ flat_items f nothing))
 
-pub labels_front : (xs : List Item) (i : ℕ) (x : Item) → i < length xs → x ≡ get_or xs i x → labels (all_items (drop i xs)) ≡ labels (with_item x nothing) ++ labels (all_items (drop (i + 1) xs))
+labels_front : (xs : List Item) (i : ℕ) (x : Item) → i < length xs → x ≡ get_or xs i x → labels (all_items (drop i xs)) ≡ labels (with_item x nothing) ++ labels (all_items (drop (i + 1) xs))
 labels_front xs i x m e = ap (λ l. labels (all_items l)) (front xs i x m e) ∙ item_labels x (all_items (drop (i + 1) xs))
 
 -- ---- the first
@@ -37,16 +37,27 @@ some_now : (o : Option (Bor (List ℕ))) → is_some (now o) ≡ is_some o
 some_now None = refl
 some_now (Some x) = refl
 
-pub first_there : (o : Option (Bor (List ℕ))) (whole a b : List (List ℕ)) (l : List (List ℕ)) → true ≡ is_some o → l ≡ a ++ b → slice_get whole 0 ≡ slice_get l 0 → now o ≡ slice_get a 0 → now o ≡ slice_get whole 0
-first_there o whole a b l some is so_far e = there (now o) a b (some_now o ∙ sym some) e ∙ sym (so_far ∙ ap (λ k. slice_get k 0) is)
+pub first_there : (o : Option (Bor (List ℕ))) (whole : List (List ℕ)) (xs : List Item) (i : ℕ) (x : Item) → true ≡ is_some o → i < length xs → x ≡ get_or xs i x
+    → slice_get whole 0 ≡ slice_get (labels (all_items (drop i xs))) 0 → now o ≡ slice_get (labels (with_item x nothing)) 0 → now o ≡ slice_get whole 0
+first_there o whole xs i x some m is so_far e =
+    there (now o) (labels (with_item x nothing)) (labels (all_items (drop (i + 1) xs))) (some_now o ∙ sym some) e ∙ sym (so_far ∙ ap (λ l. slice_get l 0) (labels_front xs i x m is))
 
-pub first_missing : (o : Option (Bor (List ℕ))) (whole a b : List (List ℕ)) (l : List (List ℕ)) → false ≡ is_some o → l ≡ a ++ b → slice_get whole 0 ≡ slice_get l 0 → now o ≡ slice_get a 0 → slice_get whole 0 ≡ slice_get b 0
-first_missing o whole a b l none is so_far e = so_far ∙ ap (λ k. slice_get k 0) is ∙ missing (now o) a b (some_now o ∙ sym none) e
+pub first_missing : (o : Option (Bor (List ℕ))) (whole : List (List ℕ)) (xs : List Item) (i : ℕ) (x : Item) → false ≡ is_some o → i < length xs → x ≡ get_or xs i x
+    → slice_get whole 0 ≡ slice_get (labels (all_items (drop i xs))) 0 → now o ≡ slice_get (labels (with_item x nothing)) 0 → slice_get whole 0 ≡ slice_get (labels (all_items (drop (i + 1) xs))) 0
+first_missing o whole xs i x none m is so_far e =
+    so_far ∙ ap (λ l. slice_get l 0) (labels_front xs i x m is) ∙ missing (now o) (labels (with_item x nothing)) (labels (all_items (drop (i + 1) xs))) (some_now o ∙ sym none) e
 
 -- ---- all
 
-pub one_other : (test : List ℕ → Bool) (whole : Bool) (a b l : List (List ℕ)) → false ≡ list_all test a → l ≡ a ++ b → whole ≡ list_all test l → false ≡ whole
-one_other test whole a b l here is so_far = sym (so_far ∙ ap (list_all test) is ∙ list_all-append test a b ∙ ap (λ t. t && list_all test b) (sym here))
+all_front : (test : List ℕ → Bool) (xs : List Item) (i : ℕ) (x : Item) (here : Bool) → here ≡ list_all test (labels (with_item x nothing)) → i < length xs → x ≡ get_or xs i x
+    → list_all test (labels (all_items (drop i xs))) ≡ (here && list_all test (labels (all_items (drop (i + 1) xs))))
+all_front test xs i x here e m is =
+    let rest = labels (all_items (drop (i + 1) xs)) in
+    ap (list_all test) (labels_front xs i x m is) ∙ list_all-append test (labels (with_item x nothing)) rest ∙ ap (λ t. t && list_all test rest) (sym e)
 
-pub one_more : (test : List ℕ → Bool) (whole : Bool) (a b l : List (List ℕ)) → true ≡ list_all test a → l ≡ a ++ b → whole ≡ list_all test l → whole ≡ list_all test b
-one_more test whole a b l here is so_far = so_far ∙ ap (list_all test) is ∙ list_all-append test a b ∙ ap (λ t. t && list_all test b) (sym here)
+pub one_other : (test : List ℕ → Bool) (whole : Bool) (xs : List Item) (i : ℕ) (x : Item) → false ≡ list_all test (labels (with_item x nothing)) → i < length xs → x ≡ get_or xs i x → whole ≡ list_all test (labels (all_items (drop i xs))) → false ≡ whole
+one_other test whole xs i x here m is so_far = sym (so_far ∙ all_front test xs i x false here m is)
+
+pub one_more : (test : List ℕ → Bool) (whole : Bool) (xs : List Item) (i : ℕ) (x : Item) → true ≡ list_all test (labels (with_item x nothing)) → i < length xs → x ≡ get_or xs i x → whole ≡ list_all test (labels (all_items (drop i xs)))
+    → whole ≡ list_all test (labels (all_items (drop (i + 1) xs)))
+one_more test whole xs i x here m is so_far = so_far ∙ all_front test xs i x true here m is

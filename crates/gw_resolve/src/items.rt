@@ -12,9 +12,9 @@ use crate::element::{ScopeNode, enter, nodes_of_child};
 use crate::failure::Failure;
 use crate::led::{PathUse, lead};
 use crate::lost::{NameFailures, hide};
-use crate::resolved::{FieldCondition, FlatItem, GroupItem, Item, Rule, ScopePath, SegmentItem};
+use crate::resolved::{FieldCondition, FlatItem, GroupItem, Item, ScopePath, SegmentItem};
 use crate::rules::{field_condition, rules};
-use crate::targets::{NodeKind, TargetNode, flat_target, label_target};
+use crate::targets::{NodeKind, flat_target, label_target};
 use gw_maplang::Walk;
 use gw_profile::Level;
 use std::alloc::{AllocError, Global};
@@ -61,29 +61,6 @@ fn walk_there<'a, 'p>(
     })
 }
 
-// A segment item.
-fn segment(
-    line: u32,
-    aimed: TargetNode,
-    place: Option<ScopePath>,
-    condition: Option<FieldCondition>,
-    rules: Vec<Rule>,
-) -> ResolvedItem
-    ensures item { result.item ≡ Item.Segment (record { line = line; child = aimed.child; place = place; condition = condition; rules = rules }) }
-    ensures node { result.node ≡ aimed.node }
-{
-    ResolvedItem {
-        item: Item::Segment(SegmentItem {
-            line,
-            child: aimed.child,
-            place,
-            condition,
-            rules,
-        }),
-        node: aimed.node,
-    }
-}
-
 // An item of a segment for each that is walked.
 fn segment_from(
     alloc: Global,
@@ -113,7 +90,16 @@ fn segment_from(
     )?;
     let rules = rules(alloc, &mut lost.paths, &there.inner, &made.rules)?;
     hide(&mut lost.paths, there.leads, there.kept);
-    Ok(segment(made.line, aimed, Some(there.place), there.condition, rules))
+    Ok(ResolvedItem {
+        item: Item::Segment(SegmentItem {
+            line: made.line,
+            child: aimed.child,
+            place: Some(there.place),
+            condition: there.condition,
+            rules,
+        }),
+        node: aimed.node,
+    })
 }
 
 // An item of one segment.
@@ -137,7 +123,16 @@ fn segment_always(
         &made.label,
     )?;
     let rules = rules(alloc, &mut lost.paths, scope, &made.rules)?;
-    Ok(segment(made.line, aimed, None, None, rules))
+    Ok(ResolvedItem {
+        item: Item::Segment(SegmentItem {
+            line: made.line,
+            child: aimed.child,
+            place: None,
+            condition: None,
+            rules,
+        }),
+        node: aimed.node,
+    })
 }
 
 // A group for each that is walked. A path that leads nowhere hides the failures of the paths within, and a label that fails

@@ -42,27 +42,6 @@ fn leads(scope: &[ScopeNode<'_, '_>], field: Option<u32>, place: Option<&ScopePa
     }
 }
 
-// What is left out without labels, and the failure of what it names.
-fn left_out(
-    alloc: Global,
-    found: &mut Vec<Failure>,
-    message: ScopeNode<'_, '_>,
-    dropped: &Dropped,
-) -> Result<LeftOut, AllocError>
-    ensures made { IfOk result (λ d. left_out d ≡ spec.drop (seen message.entry) (raw.dropped dropped.now)) }
-    ensures failures { OnOk result (Notes found.old found.new (spec.drop_failures (seen message.entry) (raw.dropped dropped.now))) }
-{
-    let scope = [message];
-    let place = place_of(alloc, &scope, &dropped.path)?;
-    let there = leads(&scope, dropped.field, place.as_ref());
-    note(found, 1, at_line(dropped.line), !there)?;
-    let place = or_itself(alloc, place);
-    Ok(LeftOut {
-        steps: place.steps,
-        field: dropped.field,
-    })
-}
-
 // What is left out without labels, and the failures of what it names.
 fn all_left_out(
     alloc: Global,
@@ -73,10 +52,17 @@ fn all_left_out(
     ensures made { IfOk result (λ v. map left_out v.items ≡ map (spec.drop (seen message.entry)) (map raw.dropped drops.now)) }
     ensures failures { OnOk result (Notes found.old found.new (flat_map (spec.drop_failures (seen message.entry)) (map raw.dropped drops.now))) }
 {
+    let scope = [message];
     let mut built = Vec::new(alloc);
     for dropped in drops {
-        let one = left_out(alloc, found, message, dropped)?;
-        built.push(one)?;
+        let place = place_of(alloc, &scope, &dropped.path)?;
+        let there = leads(&scope, dropped.field, place.as_ref());
+        note(found, 1, at_line(dropped.line), !there)?;
+        let place = or_itself(alloc, place);
+        built.push(LeftOut {
+            steps: place.steps,
+            field: dropped.field,
+        })?;
     }
     Ok(built)
 }

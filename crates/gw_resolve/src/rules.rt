@@ -13,7 +13,7 @@ use crate::led::{PathUse, lead};
 use crate::resolved::{
     Alternative, At, FieldCondition, Making, Reference, ResolvedLeaf, Rule, Source,
 };
-use gw_maplang::{Condition, FieldPath, LeafRule, Ref};
+use gw_maplang::{Condition, FieldPath, Leaf, LeafRule, Ref};
 use std::alloc::{AllocError, Global};
 
 fn reference(
@@ -57,26 +57,20 @@ fn leaf(
     found: &mut Vec<Failure>,
     scope: &[ScopeNode<'_, '_>],
     line: u32,
-    made: &gw_maplang::Leaf,
+    made: &Leaf,
 ) -> Result<ResolvedLeaf, AllocError>
     ensures made { IfOk result (IsMadeOf seen.leaf spec.leaf (walked scope.now) (raw.leaf made.now)) }
     ensures failures { OnOk result (Notes found.old found.new (spec.text_failures (walked scope.now) line (raw.leaf made.now))) }
 {
     match made {
-        gw_maplang::Leaf::Const(text) => {
-            let text = Vec::from_slice(alloc, text)?;
-            Ok(ResolvedLeaf::Const(text))
-        }
-        gw_maplang::Leaf::Copy(from) => {
-            let from = source(alloc, found, scope, line, from)?;
-            Ok(ResolvedLeaf::Copied(from))
-        }
-        gw_maplang::Leaf::Lookup(name, from) => {
+        Leaf::Const(text) => Ok(ResolvedLeaf::Const(Vec::from_slice(alloc, text)?)),
+        Leaf::Copy(from) => Ok(ResolvedLeaf::Copied(source(alloc, found, scope, line, from)?)),
+        Leaf::Lookup(name, from) => {
             let name = Vec::from_slice(alloc, name)?;
             let from = source(alloc, found, scope, line, from)?;
             Ok(ResolvedLeaf::LookedUp(name, from))
         }
-        gw_maplang::Leaf::Date(digits, from) => {
+        Leaf::Date(digits, from) => {
             let from = source(alloc, found, scope, line, from)?;
             Ok(ResolvedLeaf::Dated(*digits, from))
         }
@@ -152,10 +146,7 @@ fn condition(alloc: Global, said: &Option<Condition>) -> Result<Option<Condition
 {
     match said {
         None => Ok(None),
-        Some(said) => {
-            let copy = condition_of(alloc, said)?;
-            Ok(Some(copy))
-        }
+        Some(said) => Ok(Some(condition_of(alloc, said)?)),
     }
 }
 

@@ -20,6 +20,7 @@ use std::alloc::AllocError;
 // ---- labels
 
 #[cycle(first)]
+#[tactic(auto, using(crate::proofs::Labels::flat_labels))]
 fn first_of_item(item: &Item) -> Option<&[u8]>
     ensures { now result ≡ slice_get (spec.labels (with_item item.now nothing)) 0 }
 {
@@ -33,6 +34,7 @@ fn first_of_item(item: &Item) -> Option<&[u8]>
 
 // The first label of items, with those of items in a flat.
 #[cycle(first)]
+#[tactic(auto, using(crate::proofs::Labels::first_there))]
 fn first_of(items: &[Item]) -> Option<&[u8]>
     ensures { now result ≡ slice_get (spec.labels (all_items items.now)) 0 }
 {
@@ -46,6 +48,7 @@ fn first_of(items: &[Item]) -> Option<&[u8]>
 }
 
 #[cycle(all)]
+#[tactic(auto, using(crate::proofs::Labels::flat_labels))]
 fn item_has(item: &Item, label: &[u8]) -> bool
     ensures { result ≡ list_all (bytes_eq label.now) (spec.labels (with_item item.now nothing)) }
 {
@@ -59,6 +62,7 @@ fn item_has(item: &Item, label: &[u8]) -> bool
 
 // Whether this is the label of all items, and of all in a flat.
 #[cycle(all)]
+#[tactic(auto, using(crate::proofs::Labels::one_other, crate::proofs::Labels::one_more))]
 fn all_have(items: &[Item], label: &[u8]) -> bool
     ensures { result ≡ list_all (bytes_eq label.now) (spec.labels (all_items items.now)) }
 {
@@ -106,20 +110,14 @@ pub(crate) struct TargetNode {
     pub(crate) node: usize,
 }
 
-fn child_if<'a, 'p>(
-    level: Option<&'a Level<'p>>,
-    number: Option<usize>,
-) -> Option<ScopeNode<'a, 'p>>
-    ensures { option_map seen result ≡ option_and_then (places.child (nodes_in level.entry)) number }
+// Whether the node of this number is of this kind.
+fn is_kind(level: Option<&Level<'_>>, number: Option<usize>, kind: NodeKind) -> bool
+    ensures { result ≡ is_kind kind (option_and_then (places.child (nodes_in level.entry)) number) }
 {
-    child(level, number?)
-}
-
-// Whether the node is of this kind.
-fn is_kind(kind: NodeKind, node: Option<ScopeNode<'_, '_>>) -> bool
-    ensures { result ≡ is_kind kind (option_map seen node.entry) }
-{
-    match (node, kind) {
+    let Some(number) = number else {
+        return false;
+    };
+    match (child(level, number), kind) {
         (Some(ScopeNode::Segment(_)), NodeKind::Segment) => true,
         (Some(ScopeNode::Group(_, _)), NodeKind::Group) => true,
         _ => false,
@@ -155,7 +153,7 @@ pub(crate) fn label_target(
 {
     let number = labelled(level, label);
     let node = number.unwrap_or(j);
-    let fits = is_kind(kind, child_if(level, number));
+    let fits = is_kind(level, number, kind);
     note_target(found, line, fits, j, node)?;
     Ok(TargetNode {
         child: number.unwrap_or(0),

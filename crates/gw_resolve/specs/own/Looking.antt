@@ -17,16 +17,12 @@ use Rattle.gw_resolve.specs.declared.led.PathUse as uses
 use Rattle.gw_resolve.specs.declared.targets.NodeKind as kinds
 use Rattle.gw_resolve.specs.Naming.{has_label, itself, or_else, steps_of, place_of, place_or, but_last, has_place, ends_at_segment, is_single_place, condition_within, condition_failures}
 
--- the node of this number of the innermost element
-abbrev pub inwards : ℕ → Place
-inwards i = record { out = 0; steps = i ∷ [] }
-
 abbrev pub further : ℕ → Place → Place
 further n place = record { out = n + place.out; steps = place.steps }
 
 -- of the element alone
 abbrev pub begun : Element → List ℕ → Option Place
-begun e label = or_else (option_map inwards (labelled (nodes_of e) label)) (if has_label label e then Some itself else None)
+begun e label = or_else (option_map (λ i. record { out = 0; steps = i ∷ [] }) (labelled (nodes_of e) label)) (if has_label label e then Some itself else None)
 
 -- where the labels lead from this place
 abbrev pub onwards : List Element → Path → Place → Option Place
