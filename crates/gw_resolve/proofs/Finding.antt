@@ -1,5 +1,6 @@
 -- What the program finds at a place.
-use Rattle.std.proofs.Common.{◌≡◌, ℕ, zero, suc, List, [], ◌∷◌, Option, Some, None, refl, ap, ap₂, ◌∙◌, slice_get}
+use Rattle.std.proofs.Common.{◌≡◌, ℕ, zero, suc, List, [], ◌∷◌, Option, Some, None, refl, ap, ◌∙◌, slice_get}
+use Rattle.std.specs.Prelude.{option_map}
 use Rattle.gw_resolve.specs.Intervals.{Interval, of_card, product}
 use Rattle.gw_resolve.specs.Places.{Element, nodes_of, Found, child, card_of, times, node_found, found_below, found_in, element_of}
 use Rattle.gw_resolve.specs.Seen.{saturated, saturated_found}
@@ -13,26 +14,17 @@ at_element (Some e) steps = found_below steps e
 abbrev found_of : Element → Interval → Option Found
 found_of e c = Some (record { element = e; count = c })
 
-element_is : (f g : Found) → Some f ≡ Some g → f.element ≡ g.element
-element_is f g e = let same : f ≡ g = cc in ap (λ (x : Found). x.element) same
-
-count_is : (f g : Found) → Some f ≡ Some g → f.count ≡ g.count
-count_is f g e = let same : f ≡ g = cc in ap (λ (x : Found). x.count) same
-
 -- so many times as the element comes
 pub times_found : (e x : Element) (n a r : Interval) (f : Option Found) → found_of x n ≡ saturated_found f → a ≡ saturated (of_card (card_of e)) → r ≡ saturated (product a n) → found_of x r ≡ saturated_found (times (card_of e) f)
 times_found e x n a r None there comes made = absurd (cc)
 times_found e x n a r (Some g) there comes made =
-    let where_is : x ≡ g.element = element_is (record { element = x; count = n }) (record { element = g.element; count = saturated g.count }) there in
-    let often : n ≡ saturated g.count = count_is (record { element = x; count = n }) (record { element = g.element; count = saturated g.count }) there in
-    ap₂ found_of where_is (made ∙ ap₂ (λ c d. saturated (product c d)) comes often ∙ product_saturated (of_card (card_of e)) g.count)
+    ap (found_of x) (made ∙ ap (λ c. saturated (product c n)) comes)
+    ∙ ap (option_map (λ (f : Found). record { element = f.element; count = saturated (product (saturated (of_card (card_of e))) f.count) })) there
+    ∙ ap (found_of g.element) (product_saturated (of_card (card_of e)) g.count)
 
 -- below an element
 pub below_there : (steps : List ℕ) (e next : Element) (i : ℕ) → child (nodes_of e) i ≡ Some next → found_below (i ∷ steps) e ≡ times (card_of next) (found_below steps next)
 below_there steps e next i there = ap (λ c. node_found c (found_below steps)) there
-
-pub below_missing : (steps : List ℕ) (e : Element) (i : ℕ) → child (nodes_of e) i ≡ None → found_below (i ∷ steps) e ≡ None
-below_missing steps e i there = ap (λ c. node_found c (found_below steps)) there
 
 pub in_scope : (es : List Element) (out : ℕ) (steps : List ℕ) → found_in es out steps ≡ at_element (slice_get es out) steps
 in_scope [] out steps = refl

@@ -113,7 +113,7 @@ fn times<'a, 'p>(
 
 // What stands where this step and the others lead.
 #[cycle(below)]
-#[tactic(auto, using(crate::proofs::Finding::below_there, crate::proofs::Finding::below_missing))]
+#[tactic(auto, using(crate::proofs::Finding::below_there))]
 fn step<'a, 'p>(
     element: ScopeNode<'a, 'p>,
     first: usize,

@@ -241,6 +241,7 @@ fn resolve_item(
 
 /// Items of a level with these target nodes, without labels, and the failures of what they name.
 #[cycle(items)]
+#[tactic(auto, using(crate::proofs::Built::items_done))]
 pub(crate) fn resolve_items(
     alloc: Global,
     lost: &mut NameFailures,

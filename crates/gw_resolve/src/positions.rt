@@ -33,8 +33,7 @@ pub fn positions_within(
     let at = position(alloc, scope, place)?;
     let mut inner = Vec::new(alloc);
     for outer in scope {
-        let copy = Vec::from_slice(alloc, outer)?;
-        inner.push(copy)?;
+        inner.push(Vec::from_slice(alloc, outer)?)?;
     }
     inner.push(at)?;
     Ok(inner)

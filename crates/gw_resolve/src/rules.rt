@@ -120,21 +120,13 @@ fn leaves(
     Ok(built)
 }
 
-fn texts_of(alloc: Global, all: &[Vec<u8>]) -> Result<Vec<Vec<u8>>, AllocError>
-    ensures { IfOk result (λ v. raw.path v ≡ raw.items_all all.now) }
-{
-    let mut copies = Vec::new(alloc);
-    for text in all {
-        let copy = Vec::from_slice(alloc, text)?;
-        copies.push(copy)?;
-    }
-    Ok(copies)
-}
-
 fn condition_of(alloc: Global, said: &Condition) -> Result<Condition, AllocError>
     ensures { IfOk result (λ c. raw.condition c ≡ raw.condition said.now) }
 {
-    let values = texts_of(alloc, &said.values)?;
+    let mut values = Vec::new(alloc);
+    for text in &said.values {
+        values.push(Vec::from_slice(alloc, text)?)?;
+    }
     Ok(Condition {
         place: said.place,
         values,

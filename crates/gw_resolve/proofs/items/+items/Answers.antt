@@ -7,7 +7,7 @@ use Rattle.gw_profile.specs.Labels.{nodes_in}
 use Rattle.gw_resolve.specs.Naming as spec
 use Rattle.gw_resolve.specs.Places.{nodes_of_child}
 use Rattle.gw_resolve.specs.Seen.{scope as walked}
-use Rattle.gw_resolve.proofs.Built.{items_made, items_done, made_group, made_flat}
+use Rattle.gw_resolve.proofs.Built.{items_made, made_group, made_flat}
 use Rattle.gw_resolve.proofs.Noting.{noted_twice, hidden, later_hidden, walked_paths, items_next}
 use Rattle.gw_resolve.proofs.Targeting.{targets_next, group_targets, flat_targets, group_reached, flat_reached}
 use Rattle.gw_resolve.proofs.items.+items.Goals as goal
@@ -62,6 +62,3 @@ resolve_items-loop-item-preserved t c = record {
   paths = c.loop-item.invariant.paths ∙ items_next _ _ _ _ _ _ c.loop-item-test.true c.item-item.is c.in_ok-looked.ensures.paths;
   targets = c.loop-item.invariant.targets ∙ targets_next _ _ _ _ _ _ _ _ c.loop-item-test.true c.item-item.is c.in_ok-looked.ensures.targets c.in_ok-looked.ensures.node;
 }
-
-pub resolve_items-returns-clause-items : goal.resolve_items-returns-clause-items
-resolve_items-returns-clause-items t c = λ tables. items_done tables _ _ _ _ _ _ c.loop-item-test.false (c.loop-item.invariant.items tables)
