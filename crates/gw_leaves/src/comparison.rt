@@ -1,10 +1,10 @@
 //! Texts of the source compared with tables of the target, whatever the length at which a place reads them.
-ghost use Rattle.std.specs.Prelude.{◌≡◌, IfOk, OnOk, unwrap_or, option_copied, map, [], Some};
+ghost use Rattle.std.specs.Prelude.{◌≡◌, IfOk, OnOk, unwrap_or, option_map, map, []};
 ghost use Rattle.gw_profile.specs.Fault.{is_among};
 ghost use Rattle.gw_profile.specs.Value.{table_of as table_in};
 ghost use Rattle.gw_maplang.specs.Seen.{now};
 ghost use Rattle.gw_leaves.specs.Context.{context_of};
-ghost use Rattle.gw_leaves.specs.Texts.{items_all};
+ghost use Rattle.gw_leaves.specs.Texts.{items_all, rows_value};
 ghost use Rattle.gw_leaves.specs.own.Comparisons as spec;
 
 use crate::leaf::table_named;
@@ -28,19 +28,13 @@ pub(crate) type Lengths = IndexSet<(u64, u64)>;
 pub(crate) fn fits(len: Option<u32>, size: u64) -> bool
     ensures { result ≡ spec.fits len size }
 {
-    match len {
-        None => true,
-        Some(len) => size <= u64::from(len),
-    }
+    len.is_none_or(|len| size <= u64::from(len))
 }
 
 fn exceeds(most: Option<u32>, size: u64) -> bool
     ensures { result ≡ spec.exceeds most size }
 {
-    match most {
-        None => true,
-        Some(most) => u64::from(most) < size,
-    }
+    most.is_none_or(|most| u64::from(most) < size)
 }
 
 /// Whether what is given for a text that isn't longer than the one is longer than the other, each where there is one.
@@ -67,28 +61,33 @@ pub fn values_of<'a>(source: &'a Profile, name: &[u8]) -> &'a [Vec<u8>]
 fn is_listed(table: Option<&Table>, text: &[u8]) -> bool
     ensures { result ≡ is_among text.now (spec.some_values table.entry) }
 {
-    match table {
-        None => false,
-        Some(table) => table.contains(text),
-    }
+    table.is_some_and(|table| table.contains(text))
 }
 
 fn size_of(count: Option<Count>, text: &[u8]) -> u64
     ensures { result ≡ spec.size_of count text.now }
 {
-    match count {
-        None => 0,
-        Some(count) => measure(count, text),
+    count.map_or(0, |count| measure(count, text))
+}
+
+// The rows of this name, where texts are looked up in some.
+fn looked_up<'a>(map: &'a Map, rows: Option<&[u8]>) -> Option<Option<&'a Rows>>
+    ensures { option_map rows_value result ≡ option_map (spec.rows_named map.now.tables) (now rows.entry) }
+{
+    match rows {
+        None => None,
+        Some(name) => Some(map.table(name)),
     }
 }
 
 // A text as it is, or what the rows give for it.
-fn given<'a>(rows: Option<&'a Rows>, text: &'a [u8]) -> Option<&'a [u8]>
-    ensures { now result ≡ spec.given_by (option_copied rows.entry) text.now }
+fn given<'a>(rows: Option<Option<&'a Rows>>, text: &'a [u8]) -> Option<&'a [u8]>
+    ensures { now result ≡ spec.given_by (option_map rows_value rows.entry) text.now }
 {
     let Some(rows) = rows else {
         return Some(text);
     };
+    let rows = rows?;
     match rows.second(text) {
         None => rows.other(),
         Some(second) => Some(second),
@@ -121,20 +120,15 @@ fn of_values(
     count: Option<Count>,
     to: Count,
     table: Option<&Table>,
-    rows: Option<&Rows>,
+    rows: Option<Option<&Rows>>,
     texts: &[Vec<u8>],
 ) -> Result<Lengths, AllocError>
-    ensures { IfOk result (λ made. spec.AreOfValues count to (spec.some_values table.entry) (option_copied rows.entry) texts.now made.keys) }
+    ensures { IfOk result (λ made. spec.AreOfValues count to (spec.some_values table.entry) (option_map rows_value rows.entry) texts.now made.keys) }
 {
     let mut made = IndexSet::new(alloc);
     for text in texts {
-        add(
-            &mut made,
-            to,
-            table,
-            size_of(count, text),
-            given(rows, text),
-        )?;
+        let size = size_of(count, text);
+        add(&mut made, to, table, size, given(rows, text))?;
     }
     Ok(made)
 }
@@ -151,10 +145,16 @@ fn of_rows(
     alloc: Global,
     to: Count,
     table: Option<&Table>,
-    rows: &Rows,
+    rows: Option<Option<&Rows>>,
 ) -> Result<Lengths, AllocError>
-    ensures { IfOk result (λ made. spec.AreOfRows to (spec.some_values table.entry) rows.now made.keys) }
+    ensures { IfOk result (λ made. spec.AreOfRows to (spec.some_values table.entry) (option_map rows_value rows.entry) made.keys) }
 {
+    let Some(found) = rows else {
+        return Ok(IndexSet::new(alloc));
+    };
+    let Some(rows) = found else {
+        return Ok(IndexSet::new(alloc));
+    };
     let mut made = of_values(alloc, None, to, table, None, seconds_of(rows))?;
     add(&mut made, to, table, 0, rows.other())?;
     Ok(made)
@@ -171,28 +171,13 @@ pub(crate) fn compare(
     ensures { IfOk result (λ made. spec.IsCompared (context_of source.now target.now map.now) comparison.entry made.keys) }
 {
     let ((rows, listed), name) = comparison;
-    let (count, to) = (Some(source.count()), target.count());
-    let table = table_named(target, name);
-    match rows {
-        None => match listed {
-            None => Ok(IndexSet::new(alloc)),
-            Some(listed) => of_values(alloc, count, to, table, None, values_of(source, listed)),
-        },
-        Some(rows) => match map.table(rows) {
-            None => Ok(IndexSet::new(alloc)),
-            Some(rows) => match listed {
-                None => of_rows(alloc, to, table, rows),
-                Some(listed) => {
-                    of_values(
-                        alloc,
-                        count,
-                        to,
-                        table,
-                        Some(rows),
-                        values_of(source, listed),
-                    )
-                }
-            },
-        },
+    let (to, table) = (target.count(), table_named(target, name));
+    let rows = looked_up(map, rows);
+    match listed {
+        None => of_rows(alloc, to, table, rows),
+        Some(listed) => {
+            let count = Some(source.count());
+            of_values(alloc, count, to, table, rows, values_of(source, listed))
+        }
     }
 }

@@ -74,15 +74,8 @@ impl<'a> MapContext<'a> {
             known: IndexMap::new(alloc),
         };
         let mut comparisons = IndexSet::new(alloc);
-        let scope = [ScopeNode::Whole(Some(level))];
-        add_items(
-            alloc,
-            &mut comparisons,
-            &context,
-            &scope,
-            target.nodes(),
-            items,
-        )?;
+        let (scope, nodes) = ([ScopeNode::Whole(Some(level))], target.nodes());
+        add_items(alloc, &mut comparisons, &context, &scope, nodes, items)?;
         context.knowing(comparisons)
     }
 
@@ -137,16 +130,11 @@ impl<'a> MapContext<'a> {
         ensures { IfOk result (λ b. b ≡
             list_any (is_outside_named self.now (now name.entry) most) (given_at self.now (now origin.entry.0) (now origin.entry.1) len)) }
     {
-        if let Some(found) = self.known.get(&(origin, name)) {
+        let comparison = (origin, name);
+        if let Some(found) = self.known.get(&comparison) {
             return Ok(some_length(found.as_slice(), len, most));
         }
-        let found = compare(
-            self.alloc,
-            self.source,
-            self.target,
-            self.map,
-            (origin, name),
-        )?;
+        let found = compare(self.alloc, self.source, self.target, self.map, comparison)?;
         Ok(some_length(found.as_slice(), len, most))
     }
 }

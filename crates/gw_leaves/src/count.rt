@@ -17,10 +17,7 @@ use gw_resolve::{At, Interval, Making, Reference, Rule, any_number, never, once}
 fn repetitions(field: Option<&FieldShape>) -> Interval
     ensures { interval result ≡ saturated (spec.repetitions (some_field field.entry)) }
 {
-    match field {
-        None => any_number(),
-        Some(field) => Interval::of(field.card),
-    }
+    field.map_or(any_number(), |field| Interval::of(field.card))
 }
 
 fn reference_count(known: Known<'_>, field: Option<&FieldShape>) -> Interval
@@ -97,11 +94,10 @@ pub fn rule_count(sources: Sources<'_, '_, '_, '_, '_>, rule: Option<&Rule>) -> 
     match &rule.making {
         Making::Copy(from) => field_count(sources, from),
         Making::First(from, condition) => { chosen_count(sources, from, condition).at_most_one() }
-        Making::Repeat(from, condition, leaves) => leaves_count(
-            walking(sources, from),
-            leaves,
-            chosen_count(sources, from, condition),
-        ),
+        Making::Repeat(from, condition, leaves) => {
+            let count = chosen_count(sources, from, condition);
+            leaves_count(walking(sources, from), leaves, count)
+        }
         Making::Build(leaves) => leaves_count(sources, leaves, once()),
     }
 }

@@ -84,33 +84,15 @@ fn check_comp(
     };
     match filling {
         Filling::Copied(from) => {
-            check_usage(
-                found,
-                mark,
-                comp.usage,
-                comp_presence(comp_of(from, comp.number)),
-            )?;
-            check_subs(
-                found,
-                sources,
-                mark,
-                Filling::Copied(from),
-                comp.number,
-                &comp.subs,
-            )
+            let presence = comp_presence(comp_of(from, comp.number));
+            check_usage(found, mark, comp.usage, presence)?;
+            check_subs(found, sources, mark, filling, comp.number, &comp.subs)
         }
         Filling::Made(leaves) => {
-            let is_lacking = is_required(comp.usage)
-                && !is_sure(sources, Part::Comp(comp.number), leaves);
+            let part = Part::Comp(comp.number);
+            let is_lacking = is_required(comp.usage) && !is_sure(sources, part, leaves);
             note(found, 5, mark, is_lacking)?;
-            check_subs(
-                found,
-                sources,
-                mark,
-                Filling::Made(leaves),
-                comp.number,
-                &comp.subs,
-            )
+            check_subs(found, sources, mark, filling, comp.number, &comp.subs)
         }
     }
 }

@@ -29,23 +29,14 @@ pub(crate) struct LeafSource<'a> {
 pub(crate) fn table_of<'a>(sub: Option<&'a SubShape>) -> Option<&'a [u8]>
     ensures { now result ≡ spec.table_of (some_sub sub.entry) }
 {
-    match sub {
-        None => None,
-        Some(sub) => match &sub.table {
-            None => None,
-            Some(name) => Some(name.as_slice()),
-        },
-    }
+    Some(sub?.table.as_ref()?.as_slice())
 }
 
 // The length of a subcomponent.
 fn len_of(sub: Option<&SubShape>) -> Option<u32>
     ensures { result ≡ spec.len_of (some_sub sub.entry) }
 {
-    match sub {
-        None => None,
-        Some(sub) => sub.len,
-    }
+    sub?.len
 }
 
 /// Where the texts are from that are read at a place.
@@ -96,15 +87,11 @@ pub(crate) fn may_be_long(
     let len = len_of(given.sub);
     let origin = origin_of(given);
     if is_any(origin) {
-        return match len {
-            None => Ok(true),
-            Some(len) => Ok(may_exceed(
-                context.source().count(),
-                len,
-                context.target().count(),
-                most,
-            )),
+        let Some(len) = len else {
+            return Ok(true);
         };
+        let (count, to) = (context.source().count(), context.target().count());
+        return Ok(may_exceed(count, len, to, most));
     }
     context.some_given(origin, None, len, Some(most))
 }
@@ -119,19 +106,13 @@ fn some_unrowed(count: Count, len: Option<u32>, rows: Option<&Rows>, texts: &[Ve
 fn has_row(rows: Option<&Rows>, text: &[u8]) -> bool
     ensures { result ≡ is_some (second_of text.now (rows_value rows.entry).rows) }
 {
-    match rows {
-        None => false,
-        Some(rows) => rows.second(text).is_some(),
-    }
+    rows.is_some_and(|rows| rows.second(text).is_some())
 }
 
 fn has_other(rows: Option<&Rows>) -> bool
     ensures { result ≡ is_some (rows_value rows.entry).other }
 {
-    match rows {
-        None => false,
-        Some(rows) => rows.other().is_some(),
-    }
+    rows.is_some_and(|rows| rows.other().is_some())
 }
 
 /// Whether a text of this subcomponent may have no row in the table of this name, and nothing stands for it.

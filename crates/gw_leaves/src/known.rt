@@ -7,7 +7,7 @@ ghost use Rattle.gw_leaves.specs.own.Held.{known_value, saturated_known};
 ghost use Rattle.gw_profile.specs.Numbered.{some_field};
 ghost use Rattle.gw_leaves.specs.Uses.{sources_value, some_rule};
 ghost use Rattle.gw_resolve.specs.Resolved as resolved;
-ghost use Rattle.gw_resolve.specs.Seen.{found_value, scope as walked, place as seen_place, reference, rule as seen_rule};
+ghost use Rattle.gw_resolve.specs.Seen.{scope as walked, place as seen_place, reference, rule as seen_rule};
 ghost use Rattle.gw_maplang.specs.Shapes.{TableValue};
 
 use crate::sources::Sources;
@@ -21,35 +21,24 @@ pub(crate) struct Known<'a> {
     pub(crate) fields: &'a [FieldShape],
 }
 
-// What is known where no segment stands.
-fn nothing_known<'a>() -> Known<'a>
-    ensures { known_value result ≡ record { count = places.count_of None; fields = [] } }
-{
-    Known {
-        count: never(),
-        fields: &[],
-    }
-}
-
-fn known_of<'a>(found: CountedNode<'a, '_>) -> Known<'a>
-    ensures { known_value result ≡ places.known_of (found_value (Some found.entry)) }
-{
-    match found.element {
-        ScopeNode::Segment(segment) => Known {
-            count: found.count,
-            fields: &segment.fields,
-        },
-        _ => nothing_known(),
-    }
-}
-
 /// The segment at a place.
 pub(crate) fn segment_at<'a>(scope: &[ScopeNode<'a, '_>], place: &ScopePath) -> Known<'a>
     ensures { known_value result ≡ saturated_known (places.known (walked scope.now) (seen_place place.now)) }
 {
     match find(scope, place) {
-        None => nothing_known(),
-        Some(found) => known_of(found),
+        Some(
+            CountedNode {
+                element: ScopeNode::Segment(segment),
+                count,
+            },
+        ) => Known {
+            count,
+            fields: &segment.fields,
+        },
+        _ => Known {
+            count: never(),
+            fields: &[],
+        },
     }
 }
 

@@ -16,6 +16,7 @@ ghost use Rattle.gw_profile.specs.Numbered.{comp_of, sub_of};
 /// A text that is taken from a field is always there exactly where its segment is, its field is required and comes at least once,
 /// and its component and subcomponent are required.
 /// It is never there exactly where its segment never is, or the field, the component or the subcomponent is forbidden.
+#[tactic(auto, using(crate::proofs::Presences::always_there, crate::proofs::Presences::never_there))]
 pub fn presence_of_a_leaf()
     ensures always { (s : Sources) (from : Reference) (comp sub : ℕ) → ((source_shape s (of_field from comp sub)).presence ≡ Always) ↔
         ((is_never (known s.scope from.place).count.greatest ≡ false) × (1 ≤ (known s.scope from.place).count.least)
@@ -30,6 +31,7 @@ pub fn presence_of_a_leaf()
 {}
 
 /// Counts that end at the cap are added and multiplied as counts without an end, and compare alike with every number of a profile.
+#[tactic(auto, using(gw_resolve::proofs::Saturation::product_saturated))]
 pub fn counts_at_the_cap()
     ensures sums { (a b : Interval) → saturated (sum (saturated a) (saturated b)) ≡ saturated (sum a b) }
     ensures products { (a b : Interval) → saturated (product (saturated a) (saturated b)) ≡ saturated (product a b) }
@@ -43,6 +45,7 @@ pub fn counts_at_the_cap()
 /// What can stand at a place is included exactly where it meets the usage, and is never there or has only values of the table that aren't too long.
 /// Where no value can be missing from a table, each is in it; where each listed value is in it, none can be missing.
 /// None can be too long exactly where each has at most that length in the count of the target.
+#[tactic(auto, using(crate::proofs::Fitting::all_tabled, crate::proofs::Fitting::all_listed, crate::proofs::Fitting::all_short))]
 pub fn values_that_are_included()
     ensures included { (to : Count) (shape : Shape) (s : SubValue) (table : Option (List (List ℕ))) → (is_included to shape s table ≡ true) ↔
         ((s.usage ≡ R → shape.presence ≡ Always) × (s.usage ≡ X → shape.presence ≡ Never)

@@ -21,10 +21,7 @@ use gw_resolve::Source;
 pub(crate) fn table_named<'a>(profile: &'a Profile, name: Option<&[u8]>) -> Option<&'a Table>
     ensures { option_copied result ≡ option_and_then (λ n. table_in n profile.now.tables) (now name.entry) }
 {
-    match name {
-        None => None,
-        Some(name) => profile.table(name),
-    }
+    profile.table(name?)
 }
 
 /// The subcomponent that a source reads.
@@ -57,11 +54,7 @@ fn meets_usage(usage: Usage, presence: Presence) -> bool
 pub fn included(shape: &Shape, sub: &SubShape, table: Option<&[Vec<u8>]>, count: Count) -> bool
     ensures { result ≡ spec.is_included count (shape_value shape.now) (sub_value sub.now) (some_items table.entry) }
 {
-    if !meets_usage(sub.usage, shape.presence) {
-        return false;
-    }
-    if is_absent(shape.presence) {
-        return true;
-    }
-    !may_be_outside(&shape.values, table) && !may_be_long(&shape.values, sub.len, count)
+    meets_usage(sub.usage, shape.presence)
+        && (is_absent(shape.presence)
+            || !may_be_outside(&shape.values, table) && !may_be_long(&shape.values, sub.len, count))
 }

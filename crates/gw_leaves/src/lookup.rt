@@ -3,7 +3,7 @@ ghost use Rattle.std.specs.Prelude.{flat_map, OnOk};
 ghost use Rattle.gw_leaves.specs.Components as spec;
 ghost use Rattle.gw_leaves.specs.own.Held.{leaves_value, others_value};
 ghost use Rattle.gw_leaves.specs.Uses.{sources_value, map_tables, rules_value};
-ghost use Rattle.gw_resolve.specs.Seen.{Notes, alternative, at_leaf, leaf as seen_leaf, mark as seen_mark, rule as seen_rule};
+ghost use Rattle.gw_resolve.specs.Seen.{Notes, at_leaf, leaf as seen_leaf, mark as seen_mark, rule as seen_rule};
 
 use crate::count::walking;
 use crate::given::is_unrowed;
@@ -28,21 +28,6 @@ fn check_leaf(
     note(found, 10, mark, is_unrowed)
 }
 
-fn check_other(
-    found: &mut Vec<Failure>,
-    sources: Sources<'_, '_, '_, '_, '_>,
-    mark: FailureSite,
-    other: &Alternative,
-) -> Result<(), AllocError>
-    ensures { OnOk result (Notes found.old found.new (spec.other_lookups (sources_value sources.entry) (seen_mark mark) (alternative (map_tables sources.entry) other.now))) }
-{
-    let mark = FailureSite {
-        line: other.line,
-        ..mark
-    };
-    check_leaf(found, sources, mark, &other.leaf)
-}
-
 fn check_others(
     found: &mut Vec<Failure>,
     sources: Sources<'_, '_, '_, '_, '_>,
@@ -53,7 +38,11 @@ fn check_others(
         (Notes found.old found.new (flat_map (spec.other_lookups (sources_value sources.entry) (seen_mark mark)) (others_value sources.entry others.now))) }
 {
     for other in others {
-        check_other(found, sources, mark, other)?;
+        let mark = FailureSite {
+            line: other.line,
+            ..mark
+        };
+        check_leaf(found, sources, mark, &other.leaf)?;
     }
     Ok(())
 }
@@ -95,12 +84,9 @@ fn check_rule(
 {
     match &rule.making {
         Making::Copy(_) | Making::First(_, _) => Ok(()),
-        Making::Repeat(from, _, leaves) => check_leaves(
-            found,
-            walking(sources, from),
-            rule.field,
-            leaves,
-        ),
+        Making::Repeat(from, _, leaves) => {
+            check_leaves(found, walking(sources, from), rule.field, leaves)
+        }
         Making::Build(leaves) => check_leaves(found, sources, rule.field, leaves),
     }
 }

@@ -6,7 +6,7 @@ ghost use Rattle.gw_leaves.specs.Leaves as leaves_spec;
 ghost use Rattle.gw_leaves.specs.own.Held.{leaves_value, others_value};
 ghost use Rattle.gw_profile.specs.Numbered.{some_comp, some_sub};
 ghost use Rattle.gw_leaves.specs.Uses.{map_tables};
-ghost use Rattle.gw_resolve.specs.Seen.{Notes, alternative, at_leaf};
+ghost use Rattle.gw_resolve.specs.Seen.{Notes, at_leaf};
 ghost use Rattle.gw_leaves.specs.own.Seen as seen;
 
 use crate::elements::{Filling, check_comps};
@@ -49,17 +49,12 @@ fn check_source(
 ) -> Result<(), AllocError>
     ensures { OnOk result (Notes found.old found.new (seen.source_failures sources.entry mark rows.entry source.now sub.now)) }
 {
-    check_values(
-        found,
-        sources.context,
-        mark,
-        source_presence(sources, source),
-        LeafSource {
-            rows,
-            sub: source_sub(sources, source),
-        },
-        sub,
-    )
+    let presence = source_presence(sources, source);
+    let given = LeafSource {
+        rows,
+        sub: source_sub(sources, source),
+    };
+    check_values(found, sources.context, mark, presence, given, sub)
 }
 
 // Of the first digits of a text: each table lacks some of them, and their number is their greatest length.
@@ -79,12 +74,8 @@ fn check_dated(
     let is_unlisted = table_named(target, table_of(Some(sub))).is_some();
     note(found, 6, mark, is_unlisted)?;
     let values = Values::Any(Some(digits), Count::Octets);
-    note(
-        found,
-        7,
-        mark,
-        may_be_long(&values, sub.len, target.count()),
-    )
+    let is_long = may_be_long(&values, sub.len, target.count());
+    note(found, 7, mark, is_long)
 }
 
 fn check_leaf(
@@ -96,40 +87,21 @@ fn check_leaf(
 ) -> Result<(), AllocError>
     ensures { OnOk result (Notes found.old found.new (seen.leaf_failures sources.entry mark leaf.now sub.now)) }
 {
+    let target = sources.context.target();
     match leaf {
         ResolvedLeaf::Const(text) => {
-            let is_broken = !is_null(text) && breaks(sources.context.target(), text, sub);
+            let is_broken = !is_null(text) && breaks(target, text, sub);
             note(found, 12, mark, is_broken)
         }
         ResolvedLeaf::Copied(source) => check_source(found, sources, mark, None, source, sub),
         ResolvedLeaf::LookedUp(name, source) => {
             check_source(found, sources, mark, Some(name.as_slice()), source, sub)
         }
-        ResolvedLeaf::Dated(digits, source) => check_dated(
-            found,
-            sources.context.target(),
-            mark,
-            source_presence(sources, source),
-            *digits,
-            sub,
-        ),
+        ResolvedLeaf::Dated(digits, source) => {
+            let presence = source_presence(sources, source);
+            check_dated(found, target, mark, presence, *digits, sub)
+        }
     }
-}
-
-fn check_other(
-    found: &mut Vec<Failure>,
-    sources: Sources<'_, '_, '_, '_, '_>,
-    mark: FailureSite,
-    other: &Alternative,
-    sub: &SubShape,
-) -> Result<(), AllocError>
-    ensures { OnOk result (Notes found.old found.new (seen.other_failures sources.entry mark sub.now (alternative (map_tables sources.entry) other.now))) }
-{
-    let mark = FailureSite {
-        line: other.line,
-        ..mark
-    };
-    check_leaf(found, sources, mark, &other.leaf, sub)
 }
 
 fn check_others(
@@ -142,7 +114,11 @@ fn check_others(
     ensures { OnOk result (Notes found.old found.new (flat_map (seen.other_failures sources.entry mark sub.now) (others_value sources.entry others.now))) }
 {
     for other in others {
-        check_other(found, sources, mark, other, sub)?;
+        let mark = FailureSite {
+            line: other.line,
+            ..mark
+        };
+        check_leaf(found, sources, mark, &other.leaf, sub)?;
     }
     Ok(())
 }
@@ -150,19 +126,13 @@ fn check_others(
 fn is_forbidden_comp(comp: Option<&CompShape>) -> bool
     ensures { result ≡ spec.is_forbidden_comp (some_comp comp.entry) }
 {
-    match comp {
-        None => false,
-        Some(comp) => is_forbidden(comp.usage),
-    }
+    comp.is_some_and(|comp| is_forbidden(comp.usage))
 }
 
 fn is_forbidden_sub(sub: Option<&SubShape>) -> bool
     ensures { result ≡ spec.is_forbidden_sub (some_sub sub.entry) }
 {
-    match sub {
-        None => false,
-        Some(sub) => is_forbidden(sub.usage),
-    }
+    sub.is_some_and(|sub| is_forbidden(sub.usage))
 }
 
 fn check_at(

@@ -27,13 +27,9 @@ pub fn check_making(
             let filling = Filling::Copied(at_field(sources, from));
             check_comps(found, sources, mark, filling, &field.comps)
         }
-        Making::Repeat(from, _, leaves) => check_made(
-            found,
-            walking(sources, from),
-            mark,
-            leaves,
-            field,
-        ),
+        Making::Repeat(from, _, leaves) => {
+            check_made(found, walking(sources, from), mark, leaves, field)
+        }
         Making::Build(leaves) => check_made(found, sources, mark, leaves, field),
     }
 }

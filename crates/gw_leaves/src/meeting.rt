@@ -3,7 +3,7 @@
 use crate::comparison::Comparison;
 use crate::context::MapContext;
 use crate::count::walking;
-use crate::given::{LeafSource, origin_of, table_of};
+use crate::given::table_of;
 use crate::known::at_field;
 use crate::leaf::source_sub;
 use crate::places::enter_if;
@@ -21,10 +21,11 @@ type Comparisons<'a> = IndexSet<Comparison<'a>>;
 // What is read, against all texts and against the table of this subcomponent.
 fn add<'a>(
     comparisons: &mut Comparisons<'a>,
-    given: LeafSource<'a>,
+    rows: Option<&'a [u8]>,
+    read: Option<&'a SubShape>,
     sub: Option<&'a SubShape>,
 ) -> Result<(), AllocError> {
-    let origin = origin_of(given);
+    let origin = (rows, table_of(read));
     comparisons.insert((origin, None))?;
     comparisons.insert((origin, table_of(sub)))?;
     Ok(())
@@ -42,11 +43,7 @@ fn add_leaf<'a>(
         ResolvedLeaf::Copied(source) => (None, source),
         ResolvedLeaf::LookedUp(name, source) => (Some(name.as_slice()), source),
     };
-    let given = LeafSource {
-        rows,
-        sub: source_sub(sources, source),
-    };
-    add(comparisons, given, sub)
+    add(comparisons, rows, source_sub(sources, source), sub)
 }
 
 // What these leaves read, each against the subcomponent at its place.
@@ -78,11 +75,7 @@ fn add_copied<'a>(
     for comp in &field.comps {
         let same = comp_of(from, comp.number);
         for sub in &comp.subs {
-            let given = LeafSource {
-                rows: None,
-                sub: sub_of(same, sub.number),
-            };
-            add(comparisons, given, Some(sub))?;
+            add(comparisons, None, sub_of(same, sub.number), Some(sub))?;
         }
     }
     Ok(())
@@ -131,14 +124,9 @@ pub(crate) fn add_items<'a>(
 ) -> Result<(), AllocError> {
     for item in items {
         match item {
-            Item::Segment(segment) => add_segment(
-                alloc,
-                comparisons,
-                context,
-                scope,
-                nodes,
-                segment,
-            )?,
+            Item::Segment(segment) => {
+                add_segment(alloc, comparisons, context, scope, nodes, segment)?
+            }
             Item::Group(group) => {
                 let inner = enter(alloc, scope, &group.place)?;
                 let below = nodes_within(nodes, group.child);

@@ -52,19 +52,13 @@ fn both(one: Presence, other: Presence) -> Presence
 pub(crate) fn comp_presence(comp: Option<&CompShape>) -> Presence
     ensures { result ≡ spec.comp_presence (some_comp comp.entry) }
 {
-    match comp {
-        None => by_usage(None),
-        Some(comp) => by_usage(Some(comp.usage)),
-    }
+    by_usage(comp.map(|comp| comp.usage))
 }
 
 fn sub_usage(sub: Option<&SubShape>) -> Presence
     ensures { result ≡ spec.sub_usage (some_sub sub.entry) }
 {
-    match sub {
-        None => by_usage(None),
-        Some(sub) => by_usage(Some(sub.usage)),
-    }
+    by_usage(sub.map(|sub| sub.usage))
 }
 
 /// Of a subcomponent where its component is there.

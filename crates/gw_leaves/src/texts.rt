@@ -1,10 +1,9 @@
 //! What a subcomponent asks of texts that are known one by one.
-ghost use Rattle.std.specs.Prelude.{◌≡◌, ◌∷◌, [], not, nat_lt, option_copied};
-ghost use Rattle.gw_profile.specs.Fault.{is_among};
+ghost use Rattle.std.specs.Prelude.{◌≡◌, ◌∷◌, [], not, nat_lt, option_copied, bytes_eq};
 ghost use Rattle.gw_profile.specs.Lengths.{measure as measured};
 ghost use Rattle.std.specs.List.{list_any};
 ghost use Rattle.gw_leaves.specs.Leaves as spec;
-ghost use Rattle.gw_leaves.specs.Texts.{items_all, some_items, values_value};
+ghost use Rattle.gw_leaves.specs.Texts.{some_items, values_value};
 
 use crate::shape::Values;
 use gw_profile::{Count, Table, measure};
@@ -15,37 +14,26 @@ use gw_profile::{Count, Table, measure};
 pub(crate) fn is_missing(table: Option<&Table>, text: &[u8]) -> bool
     ensures { result ≡ spec.may_be_unlisted (spec.listed (text.now ∷ [])) (option_copied table.entry) }
 {
-    match table {
-        None => false,
-        Some(table) => !table.contains(text),
-    }
+    table.is_some_and(|table| !table.contains(text))
 }
 
 /// Whether the text is longer than this.
 pub(crate) fn is_long(len: Option<u32>, text: &[u8], to: Count) -> bool
     ensures { result ≡ spec.may_be_long to (spec.listed (text.now ∷ [])) len }
 {
-    match len {
-        None => false,
-        Some(most) => u64::from(most) < measure(to, text),
-    }
+    len.is_some_and(|most| u64::from(most) < measure(to, text))
 }
 
 // ---- those of a shape
 
 fn is_one_of(text: &[u8], all: &[Vec<u8>]) -> bool
-    ensures { result ≡ is_among text.now (items_all all.now) }
+    ensures { result ≡ list_any (λ v. bytes_eq text.entry.now v.items) all.now }
 {
-    for other in all {
-        if text == other.as_slice() {
-            return true;
-        }
-    }
-    false
+    all.iter().any(|other| text == other.as_slice())
 }
 
 fn some_outside(texts: &[Vec<u8>], all: &[Vec<u8>]) -> bool
-    ensures { result ≡ list_any (λ v. not (is_among v.items (items_all all.now))) texts.now }
+    ensures { result ≡ list_any (λ v. not (list_any (λ w. bytes_eq v.items w.items) all.now)) texts.now }
 {
     texts.iter().any(|text| !is_one_of(text, all))
 }

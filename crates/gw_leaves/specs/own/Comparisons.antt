@@ -1,5 +1,5 @@
 -- Texts of the source against tables of the target, whatever the length at which a place reads them.
-use Rattle.std.specs.Prelude.{◌≡◌, ℕ, Bool, true, false, ◌&&◌, ◌||◌, not, nat_lt, nat_le, List, [], filter, Option, Some, None, is_some, option_copied, option_and_then, unwrap_or, bytes_eq}
+use Rattle.std.specs.Prelude.{◌≡◌, ℕ, Bool, true, false, ◌&&◌, ◌||◌, not, nat_lt, nat_le, List, [], ◌++◌, map, filter, Option, Some, None, is_some, option_copied, option_and_then, option_to_list, unwrap_or, bytes_eq}
 use Rattle.std.specs.List.{list_any}
 use Rattle.std.specs.Map.{lookup}
 use Rattle.std.specs.Option.{option_eq}
@@ -110,11 +110,6 @@ Lengths = List (ℕ × ℕ)
 abbrev pub some_length : Option ℕ → Option ℕ → Lengths → Bool
 some_length len most lengths = list_any (λ l. fits len l.0 && exceeds most l.1) lengths
 
--- these are the lengths where what is given isn't in the target's table of this name, if one is named
-abbrev pub AreCompared : ContextValue → Option (List ℕ) → Option (List ℕ) → Option (List ℕ) → Lengths → Type 0
-AreCompared s rows table name lengths = (len most : Option ℕ) →
-    some_length len most lengths ≡ list_any (is_outside_named s name most) (given_at s rows table len)
-
 -- what is given for a text of this length was added
 abbrev pub Adds : Count → List (List ℕ) → Lengths → Lengths → ℕ → Option (List ℕ) → Type 0
 Adds to values old new size text = (len most : Option ℕ) → some_length len most new ≡ (some_length len most old || (fits len size && holds_of (is_outside to values most) text))
@@ -129,10 +124,13 @@ abbrev pub AreOfValues : Option Count → Count → List (List ℕ) → Option m
 AreOfValues count to values rows texts lengths = (len most : Option ℕ) →
     some_length len most lengths ≡ list_any (λ v. fits len (size_of count v.items) && holds_of (is_outside to values most) (given_by rows v.items)) texts
 
--- all that rows give
-abbrev pub AreOfRows : Count → List (List ℕ) → maps.Rows → Lengths → Type 0
-AreOfRows to values rows lengths = (len most : Option ℕ) →
-    some_length len most lengths ≡ (list_any (λ r. is_outside to values most r.second) rows.rows || holds_of (is_outside to values most) rows.other)
+-- all that rows give, where texts are looked up in some
+abbrev pub all_given : Option maps.Rows → List (List ℕ)
+all_given None = []
+all_given (Some rows) = map (λ (r : maps.Row). r.second) rows.rows ++ option_to_list rows.other
+
+abbrev pub AreOfRows : Count → List (List ℕ) → Option maps.Rows → Lengths → Type 0
+AreOfRows to values rows lengths = (len most : Option ℕ) → some_length len most lengths ≡ list_any (is_outside to values most) (all_given rows)
 
 -- the table of the target, where there is one
 abbrev pub some_values : Option (Bor (List (List ℕ))) → List (List ℕ)
@@ -150,8 +148,10 @@ names_eq x y = bytes_eq x.now y.now
 abbrev pub comparisons_eq : Comparison → Comparison → Bool
 comparisons_eq x y = (option_eq names_eq x.0.0 y.0.0 && option_eq names_eq x.0.1 y.0.1) && option_eq names_eq x.1 y.1
 
+-- these are the lengths where what is given isn't in the target's table
 abbrev pub IsCompared : ContextValue → Comparison → Lengths → Type 0
-IsCompared s c lengths = AreCompared s (now c.0.0) (now c.0.1) (now c.1) lengths
+IsCompared s c lengths = (len most : Option ℕ) →
+    some_length len most lengths ≡ list_any (is_outside_named s (now c.1) most) (given_at s (now c.0.0) (now c.0.1) len)
 
 -- what is found of a comparison is so
 abbrev pub AreKept : {S : Type 0} → ContextValue → List (Comparison × IndexSet (ℕ × ℕ) S) → Type 0

@@ -1,25 +1,19 @@
-use Rattle.std.proofs.Common.{◌≡◌, ◌∙◌, ap, ap₂, arith, Option, None, Some}
+use Rattle.std.proofs.Common.{◌≡◌, ◌∙◌, ap, arith, Option, None, Some}
 use Rattle.std.proofs.lemmas.Bool.Decides.{nat_tests}
-use Rattle.std.specs.Prelude.{nat_le, if◌then◌else◌, ◌&&◌}
 use Rattle.gw_profile.specs.Shapes.{FieldValue}
-use Rattle.gw_resolve.specs.Intervals.{Interval, is_sure}
+use Rattle.gw_resolve.specs.Intervals.{is_sure}
 use Rattle.gw_resolve.specs.Places.{Known, known}
 use Rattle.gw_resolve.specs.Seen.{saturated, scope, place}
 use Rattle.gw_resolve.proofs.Saturation.{never_saturated}
-use Rattle.gw_leaves.specs.Leaves.{by_usage, both, field_presence}
+use Rattle.gw_leaves.specs.Leaves.{field_presence}
 use Rattle.gw_profile.specs.Numbered.{field_of}
-use Rattle.gw_leaves.specs.declared.shape.Presence.TheVariants.{Always, Maybe, Never}
 use Rattle.gw_leaves.specs.own.Held.{known_value, saturated_known}
 use Rattle.gw_leaves.proofs.presence.reference_presence.Goals as goal
 
-sure_saturated : (i : Interval) → is_sure (saturated i) ≡ is_sure i
-sure_saturated i = grind (arith, nat_tests)
-
 -- at the cap it is as much there as above it
 at_the_cap : (k : Known) (f : Option FieldValue) → field_presence (saturated_known k) f ≡ field_presence k f
-at_the_cap k None = ap (λ b. if b then Never else Maybe) (never_saturated k.count)
-at_the_cap k (Some f) =
-    ap₂ (λ b s. if b then Never else both (by_usage (Some f.usage)) (if s && nat_le 1 f.card.min then Always else Maybe)) (never_saturated k.count) (sure_saturated k.count)
+at_the_cap k None = let none = never_saturated k.count in grind arith
+at_the_cap k (Some f) = let none = never_saturated k.count in let sure : is_sure (saturated k.count) ≡ is_sure k.count = grind (arith, nat_tests) in grind arith
 
 pub returns : goal.returns
 returns c =
