@@ -71,6 +71,7 @@ pub(crate) fn may_exceed(count: Count, len: u32, to: Count, most: u32) -> bool
 }
 
 /// Whether a text of a shape may be longer than this.
+#[tactic(auto, using(crate::proofs::Inserted::any_map))]
 pub(crate) fn may_be_long(values: &Values, len: Option<u32>, to: Count) -> bool
     ensures { result ≡ spec.may_be_long to (values_value values.now) len }
 {
