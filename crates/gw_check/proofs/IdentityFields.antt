@@ -1,5 +1,5 @@
 -- The fields of a segment are copied as its own profile asks for them.
-use Rattle.std.proofs.Common.{◌≡◌, ℕ, suc, ◌<◌, inl, inr, Bool, true, false, List, [], ◌∷◌, ◌++◌, map, Option, Some, None, refl, sym, ap, ap₂, ◌∙◌, subst, arith}
+use Rattle.std.proofs.Common.{◌≡◌, ℕ, suc, ◌<◌, ◌≤◌, inl, inr, Bool, true, false, List, [], ◌∷◌, ◌++◌, map, Option, Some, None, refl, sym, ap, ap₂, ◌∙◌, subst, arith}
 use Rattle.std.specs.Prelude.{if◌then◌else◌, cond, ◌==◌, ◌&&◌, not, nat_lt, find, filter, flat_map, unwrap_or}
 use Rattle.std.specs.List.{AllByRecursion}
 use Rattle.std.proofs.lemmas.Bool.{le-ltb, eq-eqb, eqb-true, ne_eqb}
@@ -11,7 +11,7 @@ use Rattle.gw_profile.specs.Line as line
 use Rattle.gw_profile.specs.Shapes.{SubValue, CompValue, FieldValue, SegmentValue, ProfileValue}
 use Rattle.gw_profile.specs.Lengths.{measure, len_count}
 use Rattle.gw_profile.specs.Value.{table_of}
-use Rattle.gw_profile.specs.WellFormed.{Agrees, Rising, field_numbers, LawfulComp, LawfulField, LawfulSegment}
+use Rattle.gw_profile.specs.WellFormed.{Agrees, Rising, field_numbers, LawfulSub, LawfulComp, LawfulField, LawfulSegment}
 use Rattle.gw_profile.specs.Among as lists
 use Rattle.gw_leaves.proofs.Fitting.{all_listed, all_short}
 use Rattle.gw_profile.proofs.Facts.{tells, le_is, le_test}
@@ -31,35 +31,16 @@ use Rattle.gw_check.specs.Fields.{is_expected, often_failures, content_failures,
 use Rattle.gw_check.specs.Levels.{sources}
 use Rattle.gw_check.proofs.IdentityNamed.{same_rule, same_rules, no_more, holds}
 
--- ---- lists
-
-pub none_of_each : {A B : Type 0} (f : A → List B) (xs : List A) → AllByRecursion (λ x. f x ≡ []) xs → flat_map f xs ≡ []
-none_of_each f [] h = refl
-none_of_each f (x ∷ xs) h = no_more (f x) (flat_map f xs) h.0 (none_of_each f xs h.1)
-
-module _ {A : Type 0} (P Q R : A → Type 0) where
-  each_of_both : ((x : A) → P x → Q x → R x) → (xs : List A) → AllByRecursion P xs → AllByRecursion Q xs → AllByRecursion R xs
-  each_of_both so [] p q = tt
-  each_of_both so (x ∷ xs) p q = (so x p.0 q.0, each_of_both so xs p.1 q.1)
-
 -- ---- numbers that rise
 
-module _ {A : Type 0} (number : A → ℕ) where
-  abbrev Found : List A → A → Type 0
-  Found whole x = find (λ y. number y == number x) whole ≡ Some x
-
-  -- one of a lower number stands before them
-  passed_by : (y : A) (low high : ℕ) (xs whole : List A) → number y < low → Rising low high (map number xs) → AllByRecursion (Found whole) xs → AllByRecursion (Found (y ∷ whole)) xs
-  passed_by y low high [] whole less r h = tt
-  passed_by y low high (x ∷ xs) whole less r h =
-      let other : (number y == number x) ≡ false = ne_eqb (number y) (number x) (λ e. omega (arith, less, r.0, e)) in
-      (ap (λ b. cond b (Some y) (find (λ z. number z == number x) whole)) other ∙ h.0, passed_by y (suc (number x)) high xs whole (omega (arith, less, r.0)) r.2 h.1)
-
-  -- each is found by its number
-  pub each_found : (low high : ℕ) (xs : List A) → Rising low high (map number xs) → AllByRecursion (Found xs) xs
-  each_found low high [] r = tt
-  each_found low high (x ∷ xs) r =
-      (ap (λ b. cond b (Some x) (find (λ y. number y == number x) xs)) (eq-eqb (number x) (number x) refl), passed_by x (suc (number x)) high xs xs (omega arith) r.2 (each_found (suc (number x)) high xs r.2))
+-- where none fails that is lawful and is found by its number, none does
+module _ {A B : Type 0} (number : A → ℕ) (Lawful : A → Type 0) (fails : A → List B) (whole : List A) (so : (x : A) → Lawful x → find (λ y. number y == number x) whole ≡ Some x → fails x ≡ []) where
+  none_fails : (low high : ℕ) (xs : List A) → ((n : ℕ) → low ≤ n → find (λ y. number y == n) whole ≡ find (λ y. number y == n) xs) → Rising low high (map number xs) → AllByRecursion Lawful xs → flat_map fails xs ≡ []
+  none_fails low high [] same r l = refl
+  none_fails low high (x ∷ xs) same r l =
+      let first : (n : ℕ) (b : Bool) → (number x == n) ≡ b → find (λ y. number y == n) (x ∷ xs) ≡ cond b (Some x) (find (λ y. number y == n) xs) = λ n b e. ap (λ t. cond t (Some x) (find (λ y. number y == n) xs)) e in
+      no_more (fails x) (flat_map fails xs) (so x l.0 (same (number x) r.0 ∙ first (number x) true (eq-eqb (number x) (number x) refl)))
+      (none_fails (suc (number x)) high xs (λ n less. same n (omega (arith, less, r.0)) ∙ first n false (ne_eqb (number x) n (λ e. omega (arith, less, e)))) r.2 l.1)
 
 -- ---- rules
 
@@ -163,12 +144,8 @@ module _ (profile : ProfileValue) where
   subs_hold : (names : List (List ℕ)) (mark : Mark) (c : CompValue) → LawfulComp names c → flat_map (copied_sub profile profile mark (Some c)) c.subs ≡ []
   subs_hold names mark c l = elim (tells (is_absent (comp_presence (Some c)))) [
     | inl h ↦ ap (flat_map (copied_sub profile profile mark (Some c))) (l.bare (x_is_absent c.usage h))
-    | inr h ↦ none_of_each (copied_sub profile profile mark (Some c)) c.subs (each h c.subs (each_found (λ (s : SubValue). s.number) 1 99 c.subs l.rising))
+    | inr h ↦ none_fails (λ (s : SubValue). s.number) (LawfulSub names) (copied_sub profile profile mark (Some c)) c.subs (λ s lawful found. sub_holds mark c s h found) 1 99 c.subs (λ n less. refl) l.rising l.each
   ]
-    where
-      each : is_absent (comp_presence (Some c)) ≡ false → (subs : List SubValue) → AllByRecursion (λ s. sub_of (Some c) s.number ≡ Some s) subs → AllByRecursion (λ s. copied_sub profile profile mark (Some c) s ≡ []) subs
-      each there [] h = tt
-      each there (s ∷ subs) h = (sub_holds mark c s there h.0, each there subs h.1)
 
   comp_holds : (names : List (List ℕ)) (mark : Mark) (f : FieldValue) (c : CompValue) → LawfulComp names c → comp_of (Some f) c.number ≡ Some c → copied_comp profile profile mark (Some f) c ≡ []
   comp_holds names mark f c l found =
@@ -179,8 +156,7 @@ module _ (profile : ProfileValue) where
 
   comps_hold : (names : List (List ℕ)) (mark : Mark) (f : FieldValue) → LawfulField names f → flat_map (copied_comp profile profile mark (Some f)) f.comps ≡ []
   comps_hold names mark f l =
-      none_of_each (copied_comp profile profile mark (Some f)) f.comps
-      (each_of_both (LawfulComp names) (λ c. comp_of (Some f) c.number ≡ Some c) (λ c. copied_comp profile profile mark (Some f) c ≡ []) (λ c lawful found. comp_holds names mark f c lawful found) f.comps l.each (each_found (λ (c : CompValue). c.number) 1 99 f.comps l.rising))
+      none_fails (λ (c : CompValue). c.number) (LawfulComp names) (copied_comp profile profile mark (Some f)) f.comps (λ c lawful found. comp_holds names mark f c lawful found) 1 99 f.comps (λ n less. refl) l.rising l.each
 
 -- ---- a field
 
@@ -220,17 +196,10 @@ module _ (profile : ProfileValue) (names : List (List ℕ)) (s : SegmentValue) (
   abbrev failures_of : FieldValue → Option Rule → List Failure
   failures_of f o = count_failures 0 (rule_count walked o) f o ++ content_failures walked profile f o
 
-  copy_holds : (f : FieldValue) → LawfulField names f → field_of s.fields f.number ≡ Some f → copied_field walked profile (field_mark f.number 0) (record { place = itself; field = f.number }) f ≡ []
-  copy_holds f l found = ap (λ o. flat_map (copied_comp profile profile (field_mark f.number 0) o) f.comps) found ∙ comps_hold profile names (field_mark f.number 0) f l
-
   contents_hold : (f : FieldValue) → LawfulField names f → field_of s.fields f.number ≡ Some f → content_failures walked profile f (Some (same_rule f.number)) ≡ []
   contents_hold f l found =
       elim (is_never (rule_count walked (Some (same_rule f.number))).greatest) as (λ b. (if b then [] else copied_field walked profile (field_mark f.number 0) (record { place = itself; field = f.number }) f) ≡ [])
-      [ true ↦ refl | false ↦ copy_holds f l found ]
-
-  -- as often as the field comes
-  count_is : (f : FieldValue) → field_of s.fields f.number ≡ Some f → rule_count walked (Some (same_rule f.number)) ≡ of_card f.card
-  count_is f found = ap (reference_count (record { count = once; fields = s.fields })) found
+      [ true ↦ refl | false ↦ ap (λ o. flat_map (copied_comp profile profile (field_mark f.number 0) o) f.comps) found ∙ comps_hold profile names (field_mark f.number 0) f l ]
 
   field_holds : (f : FieldValue) → LawfulField names f → rule_of (same_rules s.fields) f.number ≡ copy_of (field_of s.fields f.number) → field_of s.fields f.number ≡ Some f → field_failures walked profile 0 (same_rules s.fields) f ≡ []
   field_holds f l copied found =
@@ -241,9 +210,10 @@ module _ (profile : ProfileValue) (names : List (List ℕ)) (s : SegmentValue) (
             let none : rule_of (same_rules s.fields) f.number ≡ None = own ∙ ap (λ b. rule_or b f.number) h in
             ap (failures_of f) none ∙ no_more _ _ (absent_holds (field_mark f.number 0) f.usage f.card is (subst (λ u. Agrees u f.card) is l.agrees).0) refl
         | inr h ↦
+            -- (it comes as often as the field)
             let some : rule_of (same_rules s.fields) f.number ≡ Some (same_rule f.number) = own ∙ ap (λ b. rule_or b f.number) h in
             ap (failures_of f) some
-            ∙ no_more _ _ (ap (λ c. count_failures 0 c f (Some (same_rule f.number))) (count_is f found) ∙ given_holds (field_mark f.number 0) f.usage f.card h) (contents_hold f l found)
+            ∙ no_more _ _ (ap (λ o. count_failures 0 (reference_count (record { count = once; fields = s.fields }) o) f (Some (same_rule f.number))) found ∙ given_holds (field_mark f.number 0) f.usage f.card h) (contents_hold f l found)
       ]
 
   no_lookups : (fields : List FieldValue) → flat_map (rule_lookups walked) (same_rules fields) ≡ []
@@ -254,7 +224,6 @@ module _ (profile : ProfileValue) (names : List (List ℕ)) (s : SegmentValue) (
   pub segment_holds : LawfulSegment names s → segment_failures walked profile 0 (same_rules s.fields) s.fields ≡ []
   segment_holds l =
       no_more _ _
-      (none_of_each (field_failures walked profile 0 (same_rules s.fields)) s.fields
-      (each_of_both (LawfulField names) (λ f. field_of s.fields f.number ≡ Some f) (λ f. field_failures walked profile 0 (same_rules s.fields) f ≡ [])
-      (λ f lawful found. field_holds f lawful (ruled f.number (least_field s.name) 999 s.fields l.rising) found) s.fields l.each (each_found (λ (f : FieldValue). f.number) (least_field s.name) 999 s.fields l.rising)))
+      (none_fails (λ (f : FieldValue). f.number) (LawfulField names) (field_failures walked profile 0 (same_rules s.fields)) s.fields
+      (λ f lawful found. field_holds f lawful (ruled f.number (least_field s.name) 999 s.fields l.rising) found) (least_field s.name) 999 s.fields (λ n less. refl) l.rising l.each)
       (no_lookups s.fields)

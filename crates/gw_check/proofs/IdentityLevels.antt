@@ -20,16 +20,13 @@ use Rattle.gw_check.proofs.IdentityFields.{given_holds, absent_holds, x_is, segm
 
 -- ---- how often
 
-times_one : (n : ℕ) → n * 1 + 0 ≡ n
-times_one n = omega arith
-
 most_is : (most : Option ℕ) → add (multiply most (Some 1)) (Some 0) ≡ most
 most_is None = refl
 most_is (Some zero) = refl
-most_is (Some (suc n)) = ap Some (times_one (suc n))
+most_is (Some (suc n)) = let e : suc n * 1 + 0 ≡ suc n = omega arith in ap Some e
 
 as_card : (card : Card) → sum (product (of_card card) once) never ≡ of_card card
-as_card card = λ i. record { least = times_one card.min i; greatest = most_is card.max i }
+as_card card = let e : card.min * 1 + 0 ≡ card.min = omega arith in λ i. record { least = e i; greatest = most_is card.max i }
 
 -- ---- the items of a node, and those of later nodes
 

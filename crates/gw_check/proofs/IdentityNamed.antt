@@ -1,5 +1,5 @@
 -- The map from a profile to itself, and its labels, which are found where they stand.
-use Rattle.std.proofs.Common.{◌≡◌, ℕ, zero, suc, ◌+◌, ◌≤◌, inl, inr, Bool, true, false, List, [], ◌∷◌, ◌++◌, map, Option, Some, None, refl, sym, ap, ap₂, ◌∙◌, arith}
+use Rattle.std.proofs.Common.{◌≡◌, ℕ, suc, ◌+◌, ◌≤◌, inl, inr, Bool, true, false, List, [], ◌∷◌, ◌++◌, map, Option, Some, None, refl, sym, ap, ap₂, ◌∙◌, arith}
 use Rattle.std.specs.Prelude.{if◌then◌else◌, not, nat_lt, bytes_eq, unwrap_or, option_map, option_and_then, flat_map}
 use Rattle.std.proofs.lemmas.Bool.{le-ltb}
 use Rattle.std.proofs.lemmas.Slice.Eq.{bytes_eq-Decides}
@@ -14,7 +14,7 @@ use Rattle.gw_resolve.specs.Failures.{Mark, at_line, Failure, fails, where_so, o
 use Rattle.gw_resolve.specs.Places.{Place, Element, a_segment, a_group, Found, nodes_of, child, nodes_of_child, card_of, found, element_of, within}
 use Rattle.gw_resolve.specs.Intervals.{once, of_card, product}
 use Rattle.gw_resolve.specs.Order.{is_segment, is_group}
-use Rattle.gw_resolve.specs.Resolved.{copy, Rule, SegmentItem, GroupItem, Items, no_items, segment_item, group_item}
+use Rattle.gw_resolve.specs.Resolved.{copy, Rule, SegmentItem, Items, no_items, segment_item, group_item}
 use Rattle.gw_profile.specs.Labels.{labelled}
 use Rattle.gw_resolve.specs.Naming.{place_of, place_or, itself, node_or, ends_at_segment, is_single_place, has_place, but_last, label_failures, segments_failures, walk_failures, rule_failures, path_failures, target_failures, rule, resolved_items}
 use Rattle.gw_resolve.proofs.Finding.{below_there}
@@ -39,23 +39,17 @@ same_rules (f ∷ fields) = if is_forbidden (Some f.usage) then same_rules field
 abbrev pub same_segment : ℕ → SegmentValue → SegmentItem
 same_segment j s = record { line = 0; child = j; place = Some (at_node j); condition = None; rules = same_rules s.fields }
 
-abbrev pub same_group : ℕ → GroupItem
-same_group j = record { line = 0; child = j; place = at_node j; condition = None }
-
 -- each of the nodes from number j on that isn't X
 abbrev pub same : ℕ → Forest → Items
 same j nothing = no_items
 same j (segment s rest) =
     if is_forbidden (Some s.usage) then same (suc j) rest else segment_item (same_segment j s) (same (suc j) rest)
-same j (group g nodes rest) = group_item (same_group j) (same 0 nodes) (same (suc j) rest)
+same j (group g nodes rest) = group_item (record { line = 0; child = j; place = at_node j; condition = None }) (same 0 nodes) (same (suc j) rest)
 
 -- ---- no failures
 
 pub no_more : {A : Type 0} (a b : List A) → a ≡ [] → b ≡ [] → a ++ b ≡ []
 no_more a b e f = ap₂ (λ s t. s ++ t) e f
-
-no_later : (a b : List Failure) → a ≡ [] → b ≡ [] → or_later a b ≡ []
-no_later a b e f = ap₂ or_later e f
 
 none_there : (holds : Bool) (those : List Failure) → those ≡ [] → where_so holds those ≡ []
 none_there true those e = e
@@ -128,11 +122,7 @@ pub group_stands : (whole : Forest) (j : ℕ) (g : GroupValue) (nodes rest : For
 group_stands whole j g nodes rest h = stands whole (group g nodes rest) j g.label (a_group g nodes) h refl (rw (same_text g.label) refl)
 
 pub nodes_there : (f : Forest) (k : ℕ) (e : Element) → child f k ≡ Some e → nodes_of_child f k ≡ nodes_of e
-nodes_there nothing k e h = absurd (cc)
-nodes_there (segment s rest) zero e h = let same : a_segment s ≡ e = cc in ap nodes_of same
-nodes_there (segment s rest) (suc k) e h = nodes_there rest k e h
-nodes_there (group g inner rest) zero e h = let same : a_group g inner ≡ e = cc in ap nodes_of same
-nodes_there (group g inner rest) (suc k) e h = nodes_there rest k e h
+nodes_there f k e h = ap (λ (o : Option Element). elim o as (λ x. Forest) [ None ↦ nothing | Some x ↦ nodes_of x ]) h
 
 pub number_there : (whole : Forest) (j k : ℕ) (label : List ℕ) (x : Element) → Stands whole j label x → node_or k whole label ≡ j
 number_there whole j k label x h = ap (λ o. unwrap_or o k) h.label_is
@@ -194,9 +184,6 @@ module _ (s : SegmentValue) (scope : List Element) where
 abbrev segment_of : SegmentValue → raw.SegmentItem
 segment_of s = record { line = 0; label = s.label; source = Some (walk_all s.label); rules = field_rules s.label s.fields }
 
-abbrev group_of : GroupValue → raw.GroupItem
-group_of g = record { line = 0; label = g.label; walk = walk_all g.label }
-
 pub paths_hold : (e : Element) (scope : List Element) (j : ℕ) (nodes : Forest) → Standing (nodes_of e) j nodes → Distinct (formed.labels nodes) → formed.EachGroup formed.LawfulGroup nodes → path_failures (e ∷ scope) (same_items nodes) ≡ []
 paths_hold e scope j nothing h d g = refl
 paths_hold e scope j (segment s rest) h d g =
@@ -231,7 +218,7 @@ targets_hold whole k j (group x nodes rest) order h d g =
     let number = number_there whole j k x.label (a_group x nodes) here in
     let below = ap (nodes_of_child whole) number ∙ nodes_there whole j (a_group x nodes) here.child_is in
     no_more _ _
-    (no_later _ _ (label_holds whole is_group k j x.label (a_group x nodes) here refl order)
+    (ap₂ or_later (label_holds whole is_group k j x.label (a_group x nodes) here refl order)
     (ap (λ f. target_failures f 0 (same_items nodes)) below ∙ targets_hold nodes 0 0 nodes (omega arith) (from_the_first nodes) g.0.distinct g.1))
     (ap (λ n. target_failures whole n (same_items rest)) number ∙ targets_hold whole j (suc j) rest (omega arith) (behind_group whole j x nodes rest h d) d.1 g.2)
 

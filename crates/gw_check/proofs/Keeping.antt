@@ -85,6 +85,10 @@ row_of_one (t ∷ tables) name h =
 
 -- ---- leaves
 
+all_mapped : {A B : Type 0} (P : A → Type 0) (Q : B → Type 0) (f : A → B) → ((x : A) → P x → Q (f x)) → (xs : List A) → AllByRecursion P xs → AllByRecursion Q (map f xs)
+all_mapped P Q f so [] h = tt
+all_mapped P Q f so (x ∷ xs) h = (so x h.0, all_mapped P Q f so xs h.1)
+
 source_kept : (scope : List Element) (repeated : Bool) (r : raw.Ref) → theirs.LawfulRef repeated r → LawfulSource repeated (source scope r)
 source_kept scope repeated (raw.Field from place) h = tt
 source_kept scope repeated (raw.Current place) h = h.0
@@ -95,28 +99,18 @@ leaf_kept tables names scope repeated (raw.Copy ref) t h = source_kept scope rep
 leaf_kept tables names scope repeated (raw.Lookup table ref) t h = (row_of_one tables table t, source_kept scope repeated ref h.1)
 leaf_kept tables names scope repeated (raw.Date digits ref) t h = source_kept scope repeated ref h.1
 
-others_kept : (tables : List raw.TableValue) (names : List (List ℕ)) (scope : List Element) (repeated : Bool) (os : List raw.Alternative) → AllByRecursion theirs.LawfulTable tables → theirs.LawfulOthers names repeated os → AllByRecursion (λ (o : Alternative). LawfulLeaf repeated o.leaf) (map (alternative tables scope) os)
-others_kept tables names scope repeated [] t h = tt
-others_kept tables names scope repeated (o ∷ os) t h = (leaf_kept tables names scope repeated o.leaf t h.0, others_kept tables names scope repeated os t h.1)
-
-at_kept : (tables : List raw.TableValue) (names : List (List ℕ)) (scope : List Element) (repeated : Bool) (ls : List raw.LeafValue) → AllByRecursion theirs.LawfulTable tables → AllByRecursion (theirs.LawfulLeafValue names repeated) ls → AllByRecursion (LawfulAt repeated) (map (at_leaf tables scope) ls)
-at_kept tables names scope repeated [] t h = tt
-at_kept tables names scope repeated (l ∷ ls) t h = (record { comp = h.0.0.comp.0; sub = h.0.0.sub.0; each = (leaf_kept tables names scope repeated l.leaf t h.0.1, others_kept tables names scope repeated l.others t h.0.2) }, at_kept tables names scope repeated ls t h.1)
+at_kept : (tables : List raw.TableValue) (names : List (List ℕ)) (scope : List Element) (repeated : Bool) (l : raw.LeafValue) → AllByRecursion theirs.LawfulTable tables → theirs.LawfulLeafValue names repeated l → LawfulAt repeated (at_leaf tables scope l)
+at_kept tables names scope repeated l t h =
+    let others = all_mapped (λ (o : raw.Alternative). theirs.LawfulLeaf names repeated o.leaf) (λ (o : Alternative). LawfulLeaf repeated o.leaf) (alternative tables scope) (λ o kept. leaf_kept tables names scope repeated o.leaf t kept) l.others h.2 in
+    record { comp = h.0.comp.0; sub = h.0.sub.0; each = (leaf_kept tables names scope repeated l.leaf t h.1, others) }
 
 leaves_kept : (tables : List raw.TableValue) (names : List (List ℕ)) (scope : List Element) (repeated : Bool) (ls : List raw.LeafValue) → AllByRecursion theirs.LawfulTable tables → theirs.LawfulLeaves names repeated ls → LawfulLeaves repeated (map (at_leaf tables scope) ls)
-leaves_kept tables names scope repeated ls t h = record { each = at_kept tables names scope repeated ls t h.each; distinct = subst Distinct (sym (map-map place (at_leaf tables scope) ls)) h.distinct }
+leaves_kept tables names scope repeated ls t h = record { each = all_mapped (theirs.LawfulLeafValue names repeated) (LawfulAt repeated) (at_leaf tables scope) (λ l kept. at_kept tables names scope repeated l t kept) ls h.each; distinct = subst Distinct (sym (map-map place (at_leaf tables scope) ls)) h.distinct }
 
 making_kept : (tables : List raw.TableValue) (names : List (List ℕ)) (scope : List Element) (m : raw.Making) → AllByRecursion theirs.LawfulTable tables → theirs.LawfulMaking names m → LawfulMaking (making tables scope m)
 making_kept tables names scope (raw.Repeats from c ls) t h = leaves_kept tables names scope true ls t h.2
 making_kept tables names scope (raw.Builds ls) t h = leaves_kept tables names scope false ls t h
 making_kept tables names scope m t h = tt
-
--- ---- rules
-
-each_kept : (tables : List raw.TableValue) (names : List (List ℕ)) (scope : List Element) (name label : List ℕ) (rs : List raw.RuleValue) → first_field name ≤ theirs.least_field label → AllByRecursion theirs.LawfulTable tables → AllByRecursion (theirs.LawfulRule names label) rs → AllByRecursion (LawfulRule name) (map (rule tables scope) rs)
-each_kept tables names scope name label [] fair t h = tt
-each_kept tables names scope name label (r ∷ rs) fair t h =
-    (record { field = omega (arith, fair, h.0.0.0); making = making_kept tables names scope r.making t h.0.1 }, each_kept tables names scope name label rs fair t h.1)
 
 -- ---- items
 
@@ -127,7 +121,9 @@ items_kept tables names scope nodes j (raw.segment s rest) t h f e =
     let fair = fair_child nodes s.label (node_or 0 nodes s.label) f p.0.at p.0.kind in
     let inner = walked_if scope s.source in (
       record {
-        each = each_kept tables names inner (name_of (child nodes (node_or 0 nodes s.label))) s.label s.rules fair t h.0.each;
+        each =
+            all_mapped (theirs.LawfulRule names s.label) (LawfulRule (name_of (child nodes (node_or 0 nodes s.label)))) (rule tables inner)
+            (λ r kept. record { field = omega (arith, fair, kept.0.0); making = making_kept tables names inner r.making t kept.1 }) s.rules h.0.each;
         distinct = subst Distinct (sym (map-map (λ (r : Rule). r.field) (rule tables inner) s.rules)) h.0.distinct;
       },
       items_kept tables names scope nodes (node_or j nodes s.label) rest t h.1 f p.1,

@@ -11,13 +11,13 @@ use Rattle.gw_check.specs.declared.accounted.Accounted.{Accounted}
 use Rattle.gw_check.specs.declared.accounted.FieldAt.{FieldAt}
 use Rattle.gw_maplang.specs.Shapes.{TableValue}
 use Rattle.gw_resolve.specs.Resolved.{Items, Drop}
-use Rattle.gw_check.specs.Reads.{SourceField, reads, is_read, drops_field, missed_within, passed_over}
+use Rattle.gw_check.specs.Reads.{SourceField, reads, is_read, drops_field, missed_segment, missed_within, passed_over}
 use Rattle.gw_check.specs.declared.site.Site as declared
 use Rattle.gw_check.specs.declared.site.Origin as origins
 use Rattle.gw_check.specs.Seen.{origin, all_sites}
 use Rattle.gw_check.specs.Sites.{sites}
 use Rattle.gw_resolve.specs.Positions.{Position}
-use Rattle.gw_check.specs.Collected.{Accounts, Adds, fields_at, segment_missed, nodes_missed, within_missed, node_missed}
+use Rattle.gw_check.specs.Collected.{Accounts, Adds, fields_at, has_field, has_element, nodes_missed, within_missed, node_missed}
 
 -- what is read, whatever the map's tables are
 any_tables : (tables : List TableValue) (made : List declared.Site) (at : Position) (n : ℕ) → is_read (all_sites [] made) at n ≡ is_read (all_sites tables made) at n
@@ -40,7 +40,7 @@ missed_fields tables items made drops known nodes none found all same e h =
 module _ (known : Accounted) where
   abbrev first_missed : Position → Forest → List SourceField
   first_missed at nothing = []
-  first_missed at (segment s rest) = segment_missed known at s
+  first_missed at (segment s rest) = missed_segment (has_field known) (has_element known) at s
   first_missed at (group g nodes rest) = within_missed known at nodes
 
   by_forest : (at : Position) (n : Node) → node_missed known at n ≡ first_missed at (node_forest n nothing)

@@ -1,6 +1,6 @@
 -- The failures within items, one after the other.
 use Rattle.std.proofs.Common.{◌≡◌, ℕ, ◌+◌, ◌<◌, List, ◌++◌, length, drop, get_or, sym, ap, ◌∙◌, subst}
-use Rattle.std.proofs.lemmas.List.{append-nil, append_assoc}
+use Rattle.std.proofs.lemmas.List.{append-nil}
 use Rattle.std.specs.Global.{Vec}
 use Rattle.gw_profile.specs.Shapes as profiles
 use Rattle.gw_maplang.specs.Shapes.{TableValue}
@@ -15,7 +15,7 @@ use Rattle.gw_check.specs.Levels.{level_failures, items_failures}
 use Rattle.gw_resolve.specs.declared.element.ScopeNode as elements
 use Rattle.gw_resolve.specs.Seen.{Notes, failures, place, with_item, all_items, scope}
 use Rattle.gw_check.specs.Found.{NotesLevel}
-use Rattle.gw_resolve.proofs.Noting.{front, added_one}
+use Rattle.gw_resolve.proofs.Noting.{front, added_one, noted_twice}
 use Rattle.gw_resolve.proofs.Rows.{group_items, flat_items}
 
 -- lent twice
@@ -42,8 +42,7 @@ module _ (tables : List TableValue) (from to : profiles.ProfileValue) where
   pub group_noted : (scope inner : List Element) (nodes below : profiles.Forest) (i : Item) (g : GroupItem) (is : List Item) (first middle last : Vec declared.Failure) → i ≡ Group g → is ≡ g.items.items → inner ≡ within scope (place g.place) → below ≡ nodes_of_child nodes g.child →
       NotesLevel tables inner g.line 0 below is first middle → Notes middle last (items_failures from to inner below (all_items tables is)) → Notes first last (items_failures from to scope nodes (with_item tables i no_items))
   group_noted scope inner nodes below i g is first middle last same items there under level inside =
-      inside ∙ ap (λ w. w ++ items_failures from to inner below (all_items tables is)) level
-      ∙ append_assoc (failures first.items) (level_failures inner g.line 0 below (all_items tables is)) (items_failures from to inner below (all_items tables is))
+      noted_twice (failures first.items) (failures middle.items) (failures last.items) _ _ level inside
       ∙ ap (λ l. failures first.items ++ l)
       ((λ j. level_failures (there j) g.line 0 (under j) (all_items tables (items j)) ++ items_failures from to (there j) (under j) (all_items tables (items j)))
       ∙ sym (append-nil (level_failures (within scope (place g.place)) g.line 0 (nodes_of_child nodes g.child) (all_items tables g.items.items) ++ items_failures from to (within scope (place g.place)) (nodes_of_child nodes g.child) (all_items tables g.items.items)))

@@ -9,7 +9,6 @@ use Rattle.gw_check.specs.declared.rules.Examined.{Examined}
 use Rattle.gw_check.specs.declared.site.Site as declared
 use Rattle.gw_check.specs.Seen.{all_sites}
 use Rattle.gw_check.specs.Sites.{sites}
-use Rattle.gw_check.specs.declared.rules.Judged as judged
 use Rattle.gw_check.specs.declared.rules.CheckFault as faults
 use Rattle.gw_check.specs.declared.rules.Refusal as refusals
 use Rattle.gw_resolve.specs.declared.failure.Failure.{Failure}
@@ -39,23 +38,12 @@ AreMade from to m made = naming_failures from to m ≡ [] → all_sites m.tables
 abbrev pub UnlabelledIfAllowed : ProfileValue → ProfileValue → MapValue → Examined → Type 0
 UnlabelledIfAllowed from to m e = e.findings.found.items ≡ [] → IsUnlabelled from to m e.items.items
 
-pub record IsAllowed (from to : ProfileValue) (m : MapValue) (is : List Item) : Type 0 where
-  pub source : WellFormed from
-  pub target : WellFormed to
-  pub none : all_failures from to m ≡ []
-  pub items : all_items m.tables is ≡ (resolved from to m).items
-
 -- some rule fails: the least failure, all of them, the fields of which rule 9 fails, and what each line makes
 pub record IsBroken (from to : ProfileValue) (m : MapValue) (f : Failure) (found : List Failure) (fields : List FieldAt) (of_lines : List declared.Site) : Type 0 where
   pub least : Some (failure f) ≡ least (all_failures from to m)
   pub all : failures found ≡ all_failures from to m
   pub unread : fields_at fields ≡ unread from to m
   pub made : AreMade from to m of_lines
-
--- no rule fails, or the failures
-abbrev pub Judges : ProfileValue → ProfileValue → MapValue → judged.Judged → Type 0
-Judges from to m (judged.TheVariants.Allowed is) = IsAllowed from to m is.items
-Judges from to m (judged.TheVariants.Refused f e) = IsBroken from to m f e.found.items e.used.unread.items e.used.sites.items
 
 -- all failures, or an allocation failure; the map is returned
 abbrev pub IsTold : ProfileValue → ProfileValue → MapValue → Contents → refusals.Refusal → Type 0

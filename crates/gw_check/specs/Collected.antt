@@ -5,7 +5,7 @@ use Rattle.gw_check.specs.declared.accounted.FieldAt.{FieldAt}
 use Rattle.gw_check.specs.declared.accounted.Accounted.{Accounted}
 use Rattle.gw_profile.specs.declared.node.Node.{Node, Seg, Group'}
 use Rattle.gw_profile.specs.Seen.{segment_value, row_forest}
-use Rattle.gw_profile.specs.Shapes.{FieldValue, SegmentValue, Forest}
+use Rattle.gw_profile.specs.Shapes.{FieldValue, Forest}
 use Rattle.gw_resolve.specs.Resolved.{Drop}
 use Rattle.gw_check.specs.Reads.{SourceField, is_read, drops_field, drops_element, missed_field, missed_segment, missed_nodes, missed_within}
 use Rattle.gw_resolve.specs.Positions.{Position}
@@ -52,9 +52,6 @@ pub record Accounts (known : Accounted) (made : List Site) (drops : List Drop) :
 abbrev pub field_missed : Accounted → Position → FieldValue → List SourceField
 field_missed known = missed_field (has_field known)
 
-abbrev pub segment_missed : Accounted → Position → SegmentValue → List SourceField
-segment_missed known = missed_segment (has_field known) (has_element known)
-
 abbrev pub nodes_missed : Accounted → Position → ℕ → Forest → List SourceField
 nodes_missed known = missed_nodes (has_field known) (has_element known)
 
@@ -62,5 +59,5 @@ abbrev pub within_missed : Accounted → Position → Forest → List SourceFiel
 within_missed known = missed_within (has_field known) (has_element known)
 
 abbrev pub node_missed : Accounted → Position → Node → List SourceField
-node_missed known at (Seg s) = segment_missed known at (segment_value s)
+node_missed known at (Seg s) = missed_segment (has_field known) (has_element known) at (segment_value s)
 node_missed known at (Group' label usage card shape inner) = within_missed known at (row_forest inner)

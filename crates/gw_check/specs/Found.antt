@@ -1,5 +1,5 @@
 -- The failures of a level and of its items, as the program finds them.
-use Rattle.std.specs.Prelude.{ℕ, List, map, option_map}
+use Rattle.std.specs.Prelude.{ℕ, List, map}
 use Rattle.gw_profile.specs.declared.shape.Usage.{Usage}
 use Rattle.gw_profile.specs.Shapes.{Forest}
 use Rattle.gw_profile.specs.declared.node.Node.{Node, Seg, Group'}
@@ -9,14 +9,12 @@ use Rattle.gw_maplang.specs.Shapes.{TableValue}
 use Rattle.gw_resolve.specs.declared.resolved.Item.{Item}
 use Rattle.gw_resolve.specs.declared.failure.Failure as declared
 use Rattle.gw_resolve.specs.Failures.{Mark}
-use Rattle.gw_resolve.specs.Places.{Element, child, fields_of, within_if}
-use Rattle.gw_check.specs.Fields.{segment_failures}
-use Rattle.gw_resolve.specs.declared.resolved.SegmentItem.{SegmentItem}
+use Rattle.gw_resolve.specs.Places.{Element}
 use Rattle.gw_profile.specs.Seen.{profile_value}
 use Rattle.gw_leaves.specs.Context.{ContextValue}
-use Rattle.gw_check.specs.Levels.{sources, node_failures, level_failures, items_failures, items_count}
+use Rattle.gw_check.specs.Levels.{node_failures, level_failures, items_failures, items_count}
 use Rattle.gw_resolve.specs.Resolved.{no_items}
-use Rattle.gw_resolve.specs.Seen.{Notes, place, rule, with_item, all_items}
+use Rattle.gw_resolve.specs.Seen.{Notes, with_item, all_items}
 
 abbrev pub usage_of : Node → Usage
 usage_of (Seg s) = s.usage
@@ -39,10 +37,3 @@ NotesItems s scope nodes is old new =
 abbrev pub NotesItem : ContextValue → List Element → Forest → Item → Vec declared.Failure → Vec declared.Failure → Type 0
 NotesItem s scope nodes i old new =
     Notes old new (items_failures (profile_value s.source) (profile_value s.target) scope nodes (with_item s.map.tables i no_items))
-
--- with those of the segments that an item gives
-abbrev pub NotesSegment : ContextValue → List Element → Forest → SegmentItem → Vec declared.Failure → Vec declared.Failure → Type 0
-NotesSegment context scope nodes s old new =
-    Notes old new
-    (segment_failures (sources (profile_value context.source) (within_if scope (option_map place s.place))) (profile_value context.target)
-    s.line (map (rule context.map.tables) s.rules.items) (fields_of (child nodes s.child)))

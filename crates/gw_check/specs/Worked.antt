@@ -4,9 +4,10 @@ use Rattle.gw_profile.specs.declared.shape.Usage.{Usage}
 use Rattle.gw_profile.specs.declared.shape.Usage.TheVariants.{R, RE, O}
 use Rattle.gw_profile.specs.declared.shape.Card.{Card}
 use Rattle.gw_profile.specs.declared.shape.Count.{Count}
-use Rattle.gw_profile.specs.declared.shape.Count.TheVariants.{Octets, Characters}
+use Rattle.gw_profile.specs.declared.shape.Count.TheVariants.{Octets}
 use Rattle.gw_profile.specs.Shapes.{FieldValue, Forest, nothing, segment, group, ProfileValue}
 use Rattle.gw_profile.specs.Value.{leaf_comp}
+use Rattle.gw_profile.specs.Worked as profiles
 use Rattle.gw_maplang.specs.Identity.{walk_all}
 use Rattle.gw_maplang.specs.declared.rule.LeafPlace.{LeafPlace}
 use Rattle.gw_maplang.specs.Shapes as raw
@@ -155,15 +156,11 @@ m3 =
     (flat 3 (codes "PATIENT_RESULT") (flat 4 (codes "ORDER") (item 5 (codes "OBR") (codes "OBR") (copies 6 (codes "OBR") 1 ∷ []) raw.nothing) raw.nothing) raw.nothing)
 
 -- names of at most four octets, or of at most four characters
-abbrev four : List ℕ → Count → ProfileValue
-four name count =
-    bare name count (seg (codes "PID") R (card 1 1) (record { number = 5; usage = RE; card = card 0 1; comps = leaf_comp (record { len = Some 4; table = None }) ∷ [] } ∷ []) nothing)
-
 abbrev pub s2 : ProfileValue
-s2 = four (codes "S2") Octets
+s2 = record profiles.counted { name = codes "S2"; count = Octets }
 
 abbrev pub s3 : ProfileValue
-s3 = four (codes "S3") Characters
+s3 = profiles.counted
 
 abbrev pub m5 : raw.MapValue
 m5 = plain (codes "M5") (codes "S2") (codes "S3") (item 3 (codes "PID") (codes "PID") (copies 4 (codes "PID") 5 ∷ []) raw.nothing)

@@ -1,5 +1,5 @@
 //! What a map accounts for in its source, looked up by hash.
-ghost use Rattle.std.specs.Prelude.{◌≡◌, [], false, IfOk, OnOk, map};
+ghost use Rattle.std.specs.Prelude.{◌≡◌, [], IfOk, OnOk, map};
 ghost use Rattle.gw_check.specs.Reads as spec;
 ghost use Rattle.gw_check.specs.Seen.{site as seen_site, all_sites};
 ghost use Rattle.gw_check.specs.Collected.{Accounts, Gains, no_field, no_element, has_field, has_element};
@@ -27,32 +27,28 @@ impl Drop for FieldAt {
 /// The fields that are read or dropped by themselves, and the positions of the elements that are dropped with all that is in them.
 #[derive(Drop)]
 pub(crate) struct Accounted {
+    pub(crate) alloc: Global,
     fields: IndexSet<FieldAt>,
     elements: IndexSet<Vec<usize>>,
 }
 
-fn add_field(
-    alloc: Global,
-    known: &mut Accounted,
-    at: &[usize],
-    field: u32,
-) -> Result<(), AllocError>
+fn add_field(known: &mut Accounted, at: &[usize], field: u32) -> Result<(), AllocError>
     ensures { OnOk result (Gains known.old known.new (spec.is_field at.now field) no_element) }
 {
-    let at = Vec::from_slice(alloc, at)?;
+    let at = Vec::from_slice(known.alloc, at)?;
     known.fields.insert(FieldAt { at, field })?;
     Ok(())
 }
 
-fn add_element(alloc: Global, known: &mut Accounted, at: &[usize]) -> Result<(), AllocError>
+fn add_element(known: &mut Accounted, at: &[usize]) -> Result<(), AllocError>
     ensures { OnOk result (Gains known.old known.new no_field (spec.is_element at.now)) }
 {
-    let at = Vec::from_slice(alloc, at)?;
+    let at = Vec::from_slice(known.alloc, at)?;
     known.elements.insert(at)?;
     Ok(())
 }
 
-fn add_site(alloc: Global, known: &mut Accounted, site: &Site) -> Result<(), AllocError>
+fn add_site(known: &mut Accounted, site: &Site) -> Result<(), AllocError>
     ensures { OnOk result (Gains known.old known.new (spec.reads (seen_site [] site.now).origin) no_element) }
 {
     match &site.origin {
@@ -60,34 +56,34 @@ fn add_site(alloc: Global, known: &mut Accounted, site: &Site) -> Result<(), All
         Origin::Read(from)
         | Origin::Repeated(from)
         | Origin::LookedUp(_, from)
-        | Origin::Dated(_, from) => add_field(alloc, known, &from.at, from.field),
+        | Origin::Dated(_, from) => add_field(known, &from.at, from.field),
     }
 }
 
-fn add_drop(alloc: Global, known: &mut Accounted, dropped: &LeftOut) -> Result<(), AllocError>
+fn add_drop(known: &mut Accounted, dropped: &LeftOut) -> Result<(), AllocError>
     ensures { OnOk result (Gains known.old known.new (spec.is_dropped (seen_drop dropped.now).steps (seen_drop dropped.now).field)
         (spec.is_dropped_whole (seen_drop dropped.now).steps (seen_drop dropped.now).field)) }
 {
     match dropped.field {
-        None => add_element(alloc, known, &dropped.steps),
-        Some(field) => add_field(alloc, known, &dropped.steps, field),
+        None => add_element(known, &dropped.steps),
+        Some(field) => add_field(known, &dropped.steps, field),
     }
 }
 
-fn add_sites(alloc: Global, known: &mut Accounted, sites: &[Site]) -> Result<(), AllocError>
+fn add_sites(known: &mut Accounted, sites: &[Site]) -> Result<(), AllocError>
     ensures { OnOk result (Gains known.old known.new (spec.is_read (all_sites [] sites.now)) no_element) }
 {
     for site in sites {
-        add_site(alloc, known, site)?;
+        add_site(known, site)?;
     }
     Ok(())
 }
 
-fn add_drops(alloc: Global, known: &mut Accounted, drops: &[LeftOut]) -> Result<(), AllocError>
+fn add_drops(known: &mut Accounted, drops: &[LeftOut]) -> Result<(), AllocError>
     ensures { OnOk result (Gains known.old known.new (spec.drops_field (map seen_drop drops.now)) (spec.drops_element (map seen_drop drops.now))) }
 {
     for dropped in drops {
-        add_drop(alloc, known, dropped)?;
+        add_drop(known, dropped)?;
     }
     Ok(())
 }
@@ -102,24 +98,20 @@ impl Accounted {
         ensures { IfOk result (λ known. Accounts known (all_sites [] sites.now) (map seen_drop drops.now)) }
     {
         let mut known = Accounted {
+            alloc,
             fields: IndexSet::new(alloc),
             elements: IndexSet::new(alloc),
         };
-        add_sites(alloc, &mut known, sites)?;
-        add_drops(alloc, &mut known, drops)?;
+        add_sites(&mut known, sites)?;
+        add_drops(&mut known, drops)?;
         Ok(known)
     }
 
     /// Whether this field is read, or dropped by itself.
-    pub(crate) fn has_field(
-        &self,
-        alloc: Global,
-        at: &[usize],
-        field: u32,
-    ) -> Result<bool, AllocError>
+    pub(crate) fn has_field(&self, at: &[usize], field: u32) -> Result<bool, AllocError>
         ensures { IfOk result (λ b. b ≡ has_field self.now at.now field) }
     {
-        let at = Vec::from_slice(alloc, at)?;
+        let at = Vec::from_slice(self.alloc, at)?;
         Ok(self.fields.contains(&FieldAt { at, field }))
     }
 

@@ -7,26 +7,20 @@ ghost use Rattle.gw_profile.specs.Numbered.{some_field, some_comp, some_sub};
 use gw_profile::{CompShape, FieldShape, Node, Profile, SubShape, comp_of, field_of, sub_of};
 use gw_resolve::{fields_at, nodes_within};
 
-// The fields of the segment to which the numbers lead, the first of them in these nodes.
-fn fields_below<'a>(nodes: &'a [Node], first: usize, rest: &[usize]) -> &'a [FieldShape]
-    ensures { map seen_field result.now ≡ spec.fields_below (forest nodes.now) first rest.now }
-{
-    let mut level = nodes;
-    let mut number = first;
-    for next in rest {
-        level = nodes_within(level, number);
-        number = *next;
-    }
-    fields_at(level, number)
-}
-
+// The fields of the segment to which the numbers lead.
 fn fields_in<'a>(nodes: &'a [Node], at: &[usize]) -> &'a [FieldShape]
     ensures { map seen_field result.now ≡ spec.fields_in (forest nodes.now) at.now }
 {
     let [first, rest @ ..] = at else {
         return &[];
     };
-    fields_below(nodes, *first, rest)
+    let mut level = nodes;
+    let mut number = *first;
+    for next in rest {
+        level = nodes_within(level, number);
+        number = *next;
+    }
+    fields_at(level, number)
 }
 
 /// The field of this number of the segment at a position, where the profile lists it. It takes no memory.

@@ -49,12 +49,6 @@ fn line_of(holder: u32, rule: Option<&Rule>) -> u32
     }
 }
 
-fn is_missing(rule: Option<&Rule>) -> bool
-    ensures { (tables : List TableValue) → result ≡ spec.has_no_rule (some_rule tables rule.entry) }
-{
-    rule.is_none()
-}
-
 // What the field asks of how often its rule gives it.
 fn asked(holder: u32, rule: Option<&Rule>, field: &FieldShape) -> Asked
     ensures mark { (tables : List TableValue) →
@@ -67,7 +61,7 @@ fn asked(holder: u32, rule: Option<&Rule>, field: &FieldShape) -> Asked
         mark: field_mark(field.number, line_of(holder, rule)),
         usage: field.usage,
         card: field.card,
-        is_missing: is_missing(rule),
+        is_missing: rule.is_none(),
     }
 }
 
@@ -86,18 +80,6 @@ fn check_by(
     check_content(found, sources, field, rule, count)
 }
 
-fn check_field(
-    found: &mut Vec<Failure>,
-    sources: Sources<'_, '_, '_, '_, '_>,
-    holder: u32,
-    rules: &[Rule],
-    field: &FieldShape,
-) -> Result<(), AllocError>
-    ensures { OnOk result (Notes found.old found.new (seen.field_failures sources.entry holder rules.now (field_value field.now))) }
-{
-    check_by(found, sources, holder, rule_of(rules, field.number), field)
-}
-
 fn check_fields(
     found: &mut Vec<Failure>,
     sources: Sources<'_, '_, '_, '_, '_>,
@@ -108,7 +90,7 @@ fn check_fields(
     ensures { OnOk result (Notes found.old found.new (flat_map (seen.field_failures sources.entry holder rules.now) (map field_value fields.now))) }
 {
     for field in fields {
-        check_field(found, sources, holder, rules, field)?;
+        check_by(found, sources, holder, rule_of(rules, field.number), field)?;
     }
     Ok(())
 }

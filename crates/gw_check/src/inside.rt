@@ -1,42 +1,15 @@
 //! The rules within the items of a map.
 ghost use Rattle.std.specs.Prelude.{OnOk};
 ghost use Rattle.gw_profile.specs.Seen.{forest};
-ghost use Rattle.gw_check.specs.Found.{NotesSegment, NotesItem, NotesItems};
+ghost use Rattle.gw_check.specs.Found.{NotesItem, NotesItems};
 ghost use Rattle.gw_resolve.specs.Seen.{scope as walked};
 
 use crate::field::check_segment;
 use crate::level::check_level;
 use gw_leaves::{MapContext, Sources, enter_if};
 use gw_profile::Node;
-use gw_resolve::{Failure, Item, ScopeNode, SegmentItem, enter, fields_at, nodes_within};
+use gw_resolve::{Failure, Item, ScopeNode, enter, fields_at, nodes_within};
 use std::alloc::{AllocError, Global};
-
-// The failures of the rules on the segments that an item gives.
-fn check_given(
-    alloc: Global,
-    found: &mut Vec<Failure>,
-    context: &MapContext<'_>,
-    scope: &[ScopeNode<'_, '_>],
-    nodes: &[Node],
-    segment: &SegmentItem,
-) -> Result<(), AllocError>
-    ensures { OnOk result (NotesSegment context.now (walked scope.now) (forest nodes.now) segment.now found.old found.new) }
-{
-    let inner = enter_if(alloc, scope, &segment.place)?;
-    let sources = Sources {
-        alloc,
-        context,
-        scope: &inner,
-        current: None,
-    };
-    check_segment(
-        found,
-        sources,
-        segment.line,
-        &segment.rules,
-        fields_at(nodes, segment.child),
-    )
-}
 
 // The failures of the rules on what one item gives.
 #[cycle(inside)]
@@ -51,7 +24,17 @@ fn check_item(
     ensures { OnOk result (NotesItem context.now (walked scope.now) (forest nodes.now) item.now found.old found.new) }
 {
     match item {
-        Item::Segment(segment) => check_given(alloc, found, context, scope, nodes, segment),
+        Item::Segment(segment) => {
+            let inner = enter_if(alloc, scope, &segment.place)?;
+            let sources = Sources {
+                alloc,
+                context,
+                scope: &inner,
+                current: None,
+            };
+            let fields = fields_at(nodes, segment.child);
+            check_segment(found, sources, segment.line, &segment.rules, fields)
+        }
         Item::Group(group) => {
             let inner = enter(alloc, scope, &group.place)?;
             let below = nodes_within(nodes, group.child);

@@ -14,8 +14,8 @@ use gw_maplang::LeafPlace;
 use gw_resolve::{FieldCondition, Item, ScopePath, SegmentItem, first_child, positions_within};
 use std::alloc::{AllocError, Global};
 
-// The node of this number below a position.
-fn below(alloc: Global, above: &[usize], number: usize) -> Result<Vec<usize>, AllocError>
+/// The node of this number below a position.
+pub(crate) fn below(alloc: Global, above: &[usize], number: usize) -> Result<Vec<usize>, AllocError>
     ensures { IfOk result (λ at. at.items ≡ above.now ++ number ∷ []) }
 {
     let mut at = Vec::from_slice(alloc, above)?;

@@ -1,11 +1,9 @@
 //! The rules on target segments and groups.
-ghost use Rattle.std.specs.Prelude.{◌≡◌, ℕ, List, OnOk, option_map};
+ghost use Rattle.std.specs.Prelude.{◌≡◌, List, OnOk, option_map};
 ghost use Rattle.gw_profile.specs.Seen.{forest};
 ghost use Rattle.gw_check.specs.Levels as spec;
-ghost use Rattle.gw_resolve.specs.Failures.{at_line};
-ghost use Rattle.gw_resolve.specs.Resolved as resolved;
 ghost use Rattle.gw_resolve.specs.Places as places;
-ghost use Rattle.gw_resolve.specs.Seen.{interval, saturated, mark as seen_mark, scope as walked, place as seen_place, with_item, all_items};
+ghost use Rattle.gw_resolve.specs.Seen.{interval, saturated, mark as seen_mark, scope as walked, place as seen_place, all_items};
 ghost use Rattle.gw_check.specs.Found.{NotesNode, NotesLevel, usage_of};
 ghost use Rattle.gw_maplang.specs.Shapes.{TableValue};
 
@@ -37,34 +35,19 @@ pub(crate) fn count_if(scope: &[ScopeNode<'_, '_>], place: &Option<ScopePath>) -
     }
 }
 
-// The line of an item.
-fn line_of(item: &Item) -> u32
-    ensures { (tables : List TableValue) (rest : resolved.Items) (holder j : ℕ) → at_line result ≡ spec.node_mark holder j (with_item tables item.now rest) }
-{
-    match item {
-        Item::Segment(segment) => segment.line,
-        Item::Group(group) => group.line,
-        Item::Flat(flat) => flat.line,
-    }
-}
-
 // What the first item gives, or the node of this number within what should hold one.
 fn node_mark(holder: u32, number: usize, items: &[Item]) -> FailureSite
     ensures { (tables : List TableValue) → seen_mark result ≡ spec.node_mark holder number (all_items tables items.now) }
 {
-    let [item, ..] = items else {
-        return FailureSite {
+    match items {
+        [] => FailureSite {
             child: Some(number),
             ..at_line(holder)
-        };
-    };
-    at_line(line_of(item))
-}
-
-fn has_no_item(items: &[Item]) -> bool
-    ensures { (tables : List TableValue) → result ≡ spec.has_no_item (all_items tables items.now) }
-{
-    items.is_empty()
+        },
+        [Item::Segment(segment), ..] => at_line(segment.line),
+        [Item::Group(group), ..] => at_line(group.line),
+        [Item::Flat(flat), ..] => at_line(flat.line),
+    }
 }
 
 fn usage_of(node: &Node) -> Usage
@@ -77,6 +60,7 @@ fn usage_of(node: &Node) -> Usage
 }
 
 // The failures of the rules on the count of a node, of which these are the items.
+#[tactic(auto, using(crate::proofs::Counted::none_there))]
 fn check_node(
     alloc: Global,
     found: &mut Vec<Failure>,
@@ -91,7 +75,7 @@ fn check_node(
         mark,
         usage: usage_of(node),
         card: node.card(),
-        is_missing: has_no_item(items),
+        is_missing: items.is_empty(),
     };
     check_often(found, asked, items_count(alloc, scope, items)?)
 }
@@ -107,13 +91,12 @@ pub(crate) fn check_level(
 ) -> Result<(), AllocError>
     ensures { (tables : List TableValue) → OnOk result (NotesLevel tables (walked scope.now) holder 0 (forest nodes.now) items.now found.old found.new) }
 {
-    let mut done = 0;
+    let mut left = items;
     for (j, node) in nodes.iter().enumerate() {
-        let rest = &items[done..];
-        let count = leading(rest, j);
-        let mark = node_mark(holder, j, &rest[..count]);
-        check_node(alloc, found, scope, mark, node, &rest[..count])?;
-        done += count;
+        let (its, later) = left.split_at(leading(left, j));
+        let mark = node_mark(holder, j, its);
+        check_node(alloc, found, scope, mark, node, its)?;
+        left = later;
     }
     Ok(())
 }

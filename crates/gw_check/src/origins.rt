@@ -40,27 +40,7 @@ pub(crate) fn path_at(
     })
 }
 
-// A component and subcomponent of the field whose repetition is walked.
-fn current_path(
-    alloc: Global,
-    scope: &[Vec<usize>],
-    walked: Option<&Reference>,
-    at: LeafPlace,
-) -> Result<ElementPath, AllocError>
-    ensures { IfOk result (λ s. seen_spot s ≡ spec.current_spot (places.positions scope.now) (some_reference walked.entry) at.comp at.sub) }
-{
-    match walked {
-        None => Ok(ElementPath {
-            at: Vec::new(alloc),
-            walked: 0,
-            field: 0,
-            comp: at.comp,
-            sub: at.sub,
-        }),
-        Some(from) => path_at(alloc, scope, &from.place, from.field, at),
-    }
-}
-
+// An element of the source, or a part of the field whose repetition is walked.
 fn source_path(
     alloc: Global,
     scope: &[Vec<usize>],
@@ -71,7 +51,16 @@ fn source_path(
 {
     match from {
         Source::OfField(from, at) => path_at(alloc, scope, &from.place, from.field, *at),
-        Source::OfCurrent(at) => current_path(alloc, scope, walked, *at),
+        Source::OfCurrent(at) => match walked {
+            None => Ok(ElementPath {
+                at: Vec::new(alloc),
+                walked: 0,
+                field: 0,
+                comp: at.comp,
+                sub: at.sub,
+            }),
+            Some(from) => path_at(alloc, scope, &from.place, from.field, *at),
+        },
     }
 }
 
@@ -85,14 +74,8 @@ pub(crate) fn leaf_origin(
     ensures { OriginIs result (λ tables. spec.leaf_origin (places.positions scope.now) (some_reference walked.entry) (seen_leaf tables leaf.now)) }
 {
     match leaf {
-        ResolvedLeaf::Const(text) => {
-            let text = Vec::from_slice(alloc, text)?;
-            Ok(Origin::Text(text))
-        }
-        ResolvedLeaf::Copied(from) => {
-            let from = source_path(alloc, scope, walked, from)?;
-            Ok(Origin::Read(from))
-        }
+        ResolvedLeaf::Const(text) => Ok(Origin::Text(Vec::from_slice(alloc, text)?)),
+        ResolvedLeaf::Copied(from) => Ok(Origin::Read(source_path(alloc, scope, walked, from)?)),
         ResolvedLeaf::LookedUp(name, from) => {
             let name = Vec::from_slice(alloc, name)?;
             let from = source_path(alloc, scope, walked, from)?;

@@ -1,18 +1,18 @@
 //! The fields of the source that a map passes over, each by its place (9).
 ghost use Rattle.std.specs.Prelude.{◌≡◌, List, map, flat_map, IfOk, OnOk};
-ghost use Rattle.gw_profile.specs.Seen.{forest, segment_value, field as seen_field};
+ghost use Rattle.gw_profile.specs.Seen.{forest, field as seen_field};
 ghost use Rattle.gw_maplang.specs.Shapes.{TableValue};
-ghost use Rattle.gw_check.specs.Collected.{Adds, fields_at, has_field, field_missed, segment_missed, node_missed, within_missed, nodes_missed};
+ghost use Rattle.gw_check.specs.Collected.{Adds, fields_at, has_field, field_missed, node_missed, within_missed};
 ghost use Rattle.gw_check.specs.Reads as spec;
 ghost use Rattle.gw_check.specs.Seen.{all_sites};
 ghost use Rattle.gw_check.specs.Sites.{sites as spec_sites};
 ghost use Rattle.gw_resolve.specs.Seen.{all_items, left_out};
 
 use crate::accounted::{Accounted, FieldAt};
-use crate::item_sites::sites;
+use crate::item_sites::{below, sites};
 use crate::site::Site;
 use gw_leaves::is_forbidden;
-use gw_profile::{FieldShape, Node, SegNode, Usage};
+use gw_profile::{FieldShape, Node, Usage};
 use gw_resolve::{Item, LeftOut};
 use std::alloc::{AllocError, Global};
 
@@ -23,44 +23,17 @@ fn may_hold(usage: Usage) -> bool
 }
 
 // Whether the field may hold something that is required, and nothing accounts for it.
-fn is_missed(
-    alloc: Global,
-    known: &Accounted,
-    at: &[usize],
-    field: &FieldShape,
-) -> Result<bool, AllocError>
+fn is_missed(known: &Accounted, at: &[usize], field: &FieldShape) -> Result<bool, AllocError>
     ensures { IfOk result (λ b. b ≡ spec.is_missed (has_field known.now) at.now (seen_field field.now)) }
 {
     if !may_hold(field.usage) {
         return Ok(false);
     }
-    Ok(!known.has_field(alloc, at, field.number)?)
-}
-
-// Adds a field, where it is missed.
-fn add_field(
-    alloc: Global,
-    known: &Accounted,
-    at: &[usize],
-    field: &FieldShape,
-    found: &mut Vec<FieldAt>,
-) -> Result<(), AllocError>
-    ensures { OnOk result (Adds found.old.items found.new.items (field_missed known.now at.now (seen_field field.now))) }
-{
-    if !is_missed(alloc, known, at, field)? {
-        return Ok(());
-    }
-    let at = Vec::from_slice(alloc, at)?;
-    found.push(FieldAt {
-        at,
-        field: field.number,
-    })?;
-    Ok(())
+    Ok(!known.has_field(at, field.number)?)
 }
 
 // Adds the fields that are missed.
 fn add_fields(
-    alloc: Global,
     known: &Accounted,
     at: &[usize],
     fields: &[FieldShape],
@@ -69,31 +42,21 @@ fn add_fields(
     ensures { OnOk result (Adds found.old.items found.new.items (flat_map (field_missed known.now at.now) (map seen_field fields.now))) }
 {
     for field in fields {
-        add_field(alloc, known, at, field, found)?;
+        if !is_missed(known, at, field)? {
+            continue;
+        }
+        let at = Vec::from_slice(known.alloc, at)?;
+        found.push(FieldAt {
+            at,
+            field: field.number,
+        })?;
     }
     Ok(())
 }
 
-// Adds those of the segment at this position; a forbidden segment has none.
-fn add_segment(
-    alloc: Global,
-    known: &Accounted,
-    at: &[usize],
-    segment: &SegNode,
-    found: &mut Vec<FieldAt>,
-) -> Result<(), AllocError>
-    ensures { OnOk result (Adds found.old.items found.new.items (segment_missed known.now at.now (segment_value segment.now))) }
-{
-    if known.has_element(at) || is_forbidden(segment.usage) {
-        return Ok(());
-    }
-    add_fields(alloc, known, at, &segment.fields, found)
-}
-
-// Adds those of the node at this position, and of what is within it.
+// Adds those of the node at this position, and of what is within it; a forbidden segment has none.
 #[cycle(gather)]
 fn add_node(
-    alloc: Global,
     known: &Accounted,
     at: &[usize],
     node: &Node,
@@ -102,15 +65,19 @@ fn add_node(
     ensures { OnOk result (Adds found.old.items found.new.items (node_missed known.now at.now node.now)) }
 {
     match node {
-        Node::Seg(segment) => add_segment(alloc, known, at, segment, found),
-        Node::Group(group) => add_within(alloc, known, at, &group.nodes, found),
+        Node::Seg(segment) => {
+            if known.has_element(at) || is_forbidden(segment.usage) {
+                return Ok(());
+            }
+            add_fields(known, at, &segment.fields, found)
+        }
+        Node::Group(group) => add_within(known, at, &group.nodes, found),
     }
 }
 
 // Adds those of nodes that are all that is in the element at this position.
 #[cycle(gather)]
 fn add_within(
-    alloc: Global,
     known: &Accounted,
     at: &[usize],
     nodes: &[Node],
@@ -121,24 +88,9 @@ fn add_within(
     if known.has_element(at) {
         return Ok(());
     }
-    add_nodes(alloc, known, at, nodes, found)
-}
-
-// Adds those of the nodes below this position.
-#[cycle(gather)]
-fn add_nodes(
-    alloc: Global,
-    known: &Accounted,
-    above: &[usize],
-    nodes: &[Node],
-    found: &mut Vec<FieldAt>,
-) -> Result<(), AllocError>
-    ensures { OnOk result (Adds found.old.items found.new.items (nodes_missed known.now above.now 0 (forest nodes.now))) }
-{
     for (j, node) in nodes.iter().enumerate() {
-        let mut at = Vec::from_slice(alloc, above)?;
-        at.push(j)?;
-        add_node(alloc, known, &at, node, found)?;
+        let inner = below(known.alloc, at, j)?;
+        add_node(known, &inner, node, found)?;
     }
     Ok(())
 }
@@ -166,6 +118,6 @@ pub(crate) fn passed_over(
     let sites = sites(alloc, items)?;
     let known = Accounted::of(alloc, &sites, drops)?;
     let mut unread = Vec::new(alloc);
-    add_within(alloc, &known, &[], nodes, &mut unread)?;
+    add_within(&known, &[], nodes, &mut unread)?;
     Ok(SourceUse { sites, unread })
 }

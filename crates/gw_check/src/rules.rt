@@ -3,10 +3,8 @@ ghost use Rattle.std.specs.Prelude.{◌≡◌, [], IfOk, IfErr, OnOk};
 ghost use Rattle.std.specs.Arc.{arc_value};
 ghost use Rattle.gw_profile.specs.Seen.{profile_value};
 ghost use Rattle.gw_profile.specs.WellFormed.{WellFormed};
-ghost use Rattle.gw_profile.specs.Shapes.{ProfileValue};
-ghost use Rattle.gw_maplang.specs.Seen.{map_value, Contents};
-ghost use Rattle.gw_maplang.specs.Shapes.{MapValue};
-ghost use Rattle.gw_check.specs.Answers.{AreMade, Judges, UnlabelledIfAllowed, IsRefusal, IsTold};
+ghost use Rattle.gw_maplang.specs.Seen.{map_value};
+ghost use Rattle.gw_check.specs.Answers.{AreMade, UnlabelledIfAllowed, IsRefusal, IsTold};
 ghost use Rattle.gw_check.specs.Checked.{all_failures, unread};
 ghost use Rattle.gw_check.specs.Collected.{fields_at};
 ghost use Rattle.gw_check.specs.Seen.{all_sites};
@@ -67,15 +65,6 @@ struct Examined {
     findings: Findings,
     /// The items without labels, none where a rule on labels fails.
     items: Vec<Item>,
-}
-
-/// What a map is by the rules.
-#[derive(Drop)]
-enum Judged {
-    /// No rule fails, and these are its items without labels.
-    Allowed(Vec<Item>),
-    /// The least failure, and all that the rules find.
-    Refused(Failure, Findings),
 }
 
 // Adds the failures of the rules 4 to 12; what the map makes of its source.
@@ -183,17 +172,6 @@ pub fn failures(
     Ok(examined.findings.found)
 }
 
-// What a map is by the rules.
-fn judge(alloc: Global, source: &Profile, target: &Profile, map: &Map) -> Result<Judged, AllocError>
-    ensures { IfOk result (Judges (profile_value source.now) (profile_value target.now) (map_value map.now)) }
-{
-    let examined = look(alloc, source, target, map)?;
-    match least(&examined.findings.found) {
-        Some(failure) => Ok(Judged::Refused(failure, examined.findings)),
-        None => Ok(Judged::Allowed(examined.items)),
-    }
-}
-
 /// The map with its profiles, where no rule fails, and else all failures: what `check` and `failures` answer, by one look at the map, with what else was found.
 pub fn examine(
     alloc: Global,
@@ -207,29 +185,18 @@ pub fn examine(
     ensures map { IfOk result (λ c. c.map ≡ map) }
     ensures refused { IfErr result (IsTold (profile_value (arc_value source)) (profile_value (arc_value target)) (map_value map) map) }
 {
-    match judge(alloc, &source, &target, &map) {
-        Err(_) => Err(Refusal::Memory(map)),
-        Ok(Judged::Refused(least, Findings { found, used })) => Err(Refusal::Rules {
+    let Ok(examined) = look(alloc, &source, &target, &map) else {
+        return Err(Refusal::Memory(map));
+    };
+    let Findings { found, used } = examined.findings;
+    match least(&found) {
+        None => Ok(CheckedMap::of(source, target, map, examined.items)),
+        Some(least) => Err(Refusal::Rules {
             least,
             found,
             used,
             map,
         }),
-        Ok(Judged::Allowed(items)) => Ok(CheckedMap::of(source, target, map, items)),
-    }
-}
-
-// The least of what fails.
-fn least_of(refusal: Refusal) -> CheckFault
-    ensures { (from to : ProfileValue) (m : MapValue) (given : Contents) → IsTold from to m given refusal → IsRefusal from to m given result }
-{
-    match refusal {
-        Refusal::Memory(map) => CheckFault::Memory(map),
-        Refusal::Rules { least, map, .. } => CheckFault::Rule {
-            rule: least.rule,
-            line: least.mark.line,
-            map,
-        },
     }
 }
 
@@ -248,6 +215,11 @@ pub fn check(
 {
     match examine(alloc, source, target, map) {
         Ok(checked) => Ok(checked),
-        Err(refusal) => Err(least_of(refusal)),
+        Err(Refusal::Memory(map)) => Err(CheckFault::Memory(map)),
+        Err(Refusal::Rules { least, map, .. }) => Err(CheckFault::Rule {
+            rule: least.rule,
+            line: least.mark.line,
+            map,
+        }),
     }
 }

@@ -62,21 +62,6 @@ pub(crate) fn add_read(
     add_site(alloc, sites, line, target, Origin::Read(from))
 }
 
-fn add_other(
-    alloc: Global,
-    sites: &mut Vec<Site>,
-    scope: &[Vec<usize>],
-    walked: Option<&Reference>,
-    place: Target<'_>,
-    other: &Alternative,
-) -> Result<(), AllocError>
-    ensures { AddsAll result sites.old.items sites.new.items
-        (λ tables. other_made (positions scope.now) (some_reference walked.entry) place.entry (alternative tables other.now)) }
-{
-    let origin = leaf_origin(alloc, scope, walked, &other.leaf)?;
-    add_site(alloc, sites, other.line, place, origin)
-}
-
 fn add_others(
     alloc: Global,
     sites: &mut Vec<Site>,
@@ -89,29 +74,10 @@ fn add_others(
         (λ tables. flat_map (other_made (positions scope.now) (some_reference walked.entry) place.entry) (map (alternative tables) others.now)) }
 {
     for other in others {
-        add_other(alloc, sites, scope, walked, place, other)?;
+        let origin = leaf_origin(alloc, scope, walked, &other.leaf)?;
+        add_site(alloc, sites, other.line, place, origin)?;
     }
     Ok(())
-}
-
-fn add_leaf(
-    alloc: Global,
-    sites: &mut Vec<Site>,
-    scope: &[Vec<usize>],
-    walked: Option<&Reference>,
-    target: Target<'_>,
-    leaf: &At,
-) -> Result<(), AllocError>
-    ensures { AddsAll result sites.old.items sites.new.items
-        (λ tables. spec.leaf_sites (positions scope.now) (some_reference walked.entry) target.entry.at.now target.entry.field (at_leaf tables leaf.now)) }
-{
-    let place = Target {
-        part: leaf.place,
-        ..target
-    };
-    let origin = leaf_origin(alloc, scope, walked, &leaf.leaf)?;
-    add_site(alloc, sites, leaf.line, place, origin)?;
-    add_others(alloc, sites, scope, walked, place, &leaf.others)
 }
 
 fn add_leaves(
@@ -126,26 +92,15 @@ fn add_leaves(
         (λ tables. flat_map (spec.leaf_sites (positions scope.now) (some_reference walked.entry) target.entry.at.now target.entry.field) (map (at_leaf tables) leaves.now)) }
 {
     for leaf in leaves {
-        add_leaf(alloc, sites, scope, walked, target, leaf)?;
+        let place = Target {
+            part: leaf.place,
+            ..target
+        };
+        let origin = leaf_origin(alloc, scope, walked, &leaf.leaf)?;
+        add_site(alloc, sites, leaf.line, place, origin)?;
+        add_others(alloc, sites, scope, walked, place, &leaf.others)?;
     }
     Ok(())
-}
-
-// A field that is repeated by leaves.
-fn add_repeated(
-    alloc: Global,
-    sites: &mut Vec<Site>,
-    scope: &[Vec<usize>],
-    line: u32,
-    target: Target<'_>,
-    from: &Reference,
-) -> Result<(), AllocError>
-    ensures { AddsAll result sites.old.items sites.new.items
-        (λ tables. made line target.entry (spec.repeated (spec.spot_at (positions scope.now) (seen_place from.now.place) from.now.field 0 0))) }
-{
-    let whole = LeafPlace { comp: 0, sub: 0 };
-    let from = path_at(alloc, scope, &from.place, from.field, whole)?;
-    add_site(alloc, sites, line, target, Origin::Repeated(from))
 }
 
 fn add_rule(
@@ -169,7 +124,8 @@ fn add_rule(
         }
         Making::Repeat(from, _, leaves) => {
             add_leaves(alloc, sites, scope, Some(from), field, leaves)?;
-            add_repeated(alloc, sites, scope, line, field, from)
+            let from = path_at(alloc, scope, &from.place, from.field, field.part)?;
+            add_site(alloc, sites, line, field, Origin::Repeated(from))
         }
         Making::Build(leaves) => {
             add_leaves(alloc, sites, scope, None, field, leaves)?;

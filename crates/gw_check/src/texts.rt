@@ -1,7 +1,6 @@
 //! The listed texts of a source that a target, or a table of the map, doesn't know.
 ghost use Rattle.std.specs.Prelude.{◌≡◌, ◌&&◌, not, find};
 ghost use Rattle.gw_maplang.specs.Seen.{now};
-ghost use Rattle.gw_profile.specs.Fault.{is_among};
 ghost use Rattle.gw_profile.specs.Seen.{sub as seen_sub, profile_value};
 ghost use Rattle.gw_check.specs.Elements as spec;
 ghost use Rattle.gw_leaves.specs.Leaves.{is_short};
@@ -17,16 +16,6 @@ fn is_short(count: Count, len: Option<u32>, text: &[u8]) -> bool
     match len {
         None => true,
         Some(most) => measure(count, text) <= u64::from(most),
-    }
-}
-
-// The values of the table that a subcomponent names.
-fn listed<'a>(profile: &'a Profile, sub: &SubShape) -> &'a [Vec<u8>]
-    ensures { items_all result.now ≡ spec.listed profile.now.tables (seen_sub sub.now) }
-{
-    match &sub.table {
-        None => &[],
-        Some(name) => values_of(profile, name),
     }
 }
 
@@ -69,5 +58,8 @@ fn first_untaken<'a>(
 pub fn untaken<'a>(source: &'a Profile, from: &SubShape, taker: Taker<'_>) -> Option<&'a [u8]>
     ensures { now result ≡ spec.untaken source.now.count (profile_value source.now).tables (seen_sub from.now) taker.entry }
 {
-    first_untaken(source.count(), from.len, listed(source, from), taker)
+    let Some(name) = &from.table else {
+        return None;
+    };
+    first_untaken(source.count(), from.len, values_of(source, name), taker)
 }
