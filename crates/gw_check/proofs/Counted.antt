@@ -67,6 +67,9 @@ pub record LeadsSoFar (j : ℕ) (is : List Item) (n : ℕ) : Type 0 where
   pub these : (tables : List TableValue) → its j (all_items tables is) ≡ with_items tables (take n is) (its j (all_items tables (drop n is)))
   pub others : (tables : List TableValue) → beyond j (all_items tables is) ≡ beyond j (all_items tables (drop n is))
 
+pub leads_start : (j : ℕ) (is : List Item) → LeadsSoFar j is 0
+leads_start j is = record { these = λ tables. refl; others = λ tables. refl }
+
 pub leads_more : (j : ℕ) (is : List Item) (n : ℕ) (i : Item) (c : Option ℕ) → n < length is → i ≡ get_or is n i → ChildOf i c → is_of j c ≡ true → LeadsSoFar j is n → LeadsSoFar j is (n + 1)
 leads_more j is n i c low at child same h =
     record {

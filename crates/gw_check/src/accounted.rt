@@ -1,7 +1,7 @@
 //! What a map accounts for in its source, looked up by hash.
 ghost use Rattle.std.specs.Prelude.{◌≡◌, [], IfOk, OnOk, map};
 ghost use Rattle.gw_check.specs.Reads as spec;
-ghost use Rattle.gw_check.specs.Seen.{site as seen_site, all_sites};
+ghost use Rattle.gw_check.specs.Seen.{all_sites};
 ghost use Rattle.gw_check.specs.Collected.{Accounts, Gains, no_field, no_element, has_field, has_element};
 ghost use Rattle.gw_resolve.specs.Seen.{left_out as seen_drop};
 
@@ -48,33 +48,17 @@ fn add_element(known: &mut Accounted, at: &[usize]) -> Result<(), AllocError>
     Ok(())
 }
 
-fn add_site(known: &mut Accounted, site: &Site) -> Result<(), AllocError>
-    ensures { OnOk result (Gains known.old known.new (spec.reads (seen_site [] site.now).origin) no_element) }
-{
-    match &site.origin {
-        Origin::Unsaid | Origin::Text(_) => Ok(()),
-        Origin::Read(from)
-        | Origin::Repeated(from)
-        | Origin::LookedUp(_, from)
-        | Origin::Dated(_, from) => add_field(known, &from.at, from.field),
-    }
-}
-
-fn add_drop(known: &mut Accounted, dropped: &LeftOut) -> Result<(), AllocError>
-    ensures { OnOk result (Gains known.old known.new (spec.is_dropped (seen_drop dropped.now).steps (seen_drop dropped.now).field)
-        (spec.is_dropped_whole (seen_drop dropped.now).steps (seen_drop dropped.now).field)) }
-{
-    match dropped.field {
-        None => add_element(known, &dropped.steps),
-        Some(field) => add_field(known, &dropped.steps, field),
-    }
-}
-
 fn add_sites(known: &mut Accounted, sites: &[Site]) -> Result<(), AllocError>
     ensures { OnOk result (Gains known.old known.new (spec.is_read (all_sites [] sites.now)) no_element) }
 {
     for site in sites {
-        add_site(known, site)?;
+        match &site.origin {
+            Origin::Unsaid | Origin::Text(_) => continue,
+            Origin::Read(from)
+            | Origin::Repeated(from)
+            | Origin::LookedUp(_, from)
+            | Origin::Dated(_, from) => add_field(known, &from.at, from.field)?,
+        }
     }
     Ok(())
 }
@@ -83,7 +67,11 @@ fn add_drops(known: &mut Accounted, drops: &[LeftOut]) -> Result<(), AllocError>
     ensures { OnOk result (Gains known.old known.new (spec.drops_field (map seen_drop drops.now)) (spec.drops_element (map seen_drop drops.now))) }
 {
     for dropped in drops {
-        add_drop(known, dropped)?;
+        let Some(field) = dropped.field else {
+            add_element(known, &dropped.steps)?;
+            continue;
+        };
+        add_field(known, &dropped.steps, field)?;
     }
     Ok(())
 }

@@ -69,6 +69,7 @@ fn is_of(node: usize, child: Option<usize>) -> bool
 }
 
 /// How many of the items, in the order of the nodes, are of this node.
+#[tactic(auto, using(crate::proofs::Counted::leads_start, crate::proofs::Counted::leads_here, crate::proofs::Counted::leads_more, crate::proofs::Counted::leads_to_end))]
 pub(crate) fn leading(items: &[Item], node: usize) -> usize
     ensures { Leads node items.now result }
 {

@@ -105,6 +105,7 @@ pub struct SourceUse {
 }
 
 /// What the items make, and the fields of these nodes that the items and the drops pass over, in the order of the nodes.
+#[tactic(auto, using(crate::proofs::Missing::missed_fields))]
 pub(crate) fn passed_over(
     alloc: Global,
     nodes: &[Node],
