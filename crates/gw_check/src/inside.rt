@@ -50,6 +50,7 @@ fn check_item(
 
 /// The failures of the rules on what the items give, where the target's nodes of their level are these.
 #[cycle(inside)]
+#[tactic(auto, using(crate::proofs::Within::items_more))]
 pub(crate) fn check_items(
     alloc: Global,
     found: &mut Vec<Failure>,

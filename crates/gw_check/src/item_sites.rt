@@ -81,6 +81,7 @@ fn add_condition(
 }
 
 // A segment at this position.
+#[tactic(auto, using(crate::proofs::Adding::always_made))]
 fn add_segment(
     alloc: Global,
     sites: &mut Vec<Site>,
@@ -150,6 +151,7 @@ fn add_item(
 
 // Adds what the items make below the target's element at a position.
 #[cycle(add)]
+#[tactic(auto, using(crate::proofs::Adding::item_made))]
 fn add_items(
     alloc: Global,
     sites: &mut Vec<Site>,

@@ -56,6 +56,7 @@ fn add_fields(
 
 // Adds those of the node at this position, and of what is within it; a forbidden segment has none.
 #[cycle(gather)]
+#[tactic(auto, using(crate::proofs::Missing::group_adds))]
 fn add_node(
     known: &Accounted,
     at: &[usize],
@@ -77,6 +78,7 @@ fn add_node(
 
 // Adds those of nodes that are all that is in the element at this position.
 #[cycle(gather)]
+#[tactic(auto, using(crate::proofs::Missing::node_adds))]
 fn add_within(
     known: &Accounted,
     at: &[usize],

@@ -1,14 +1,9 @@
 use Rattle.std.proofs.Common.{sym, ap, ◌∙◌}
 use Rattle.gw_profile.specs.Seen.{forest, profile_value}
-use Rattle.gw_resolve.specs.Seen.{failures, scope}
+use Rattle.gw_resolve.specs.Seen.{scope}
 use Rattle.std.proofs.lemmas.Result.{on_ok_weaker}
-use Rattle.gw_check.proofs.Within.{items_more, group_noted, flat_noted, level_same}
+use Rattle.gw_check.proofs.Within.{group_noted, flat_noted, level_same}
 use Rattle.gw_check.proofs.inside.+inside.Goals as goal
-
-pub check_items-loop-item-preserved : goal.check_items-loop-item-preserved
-check_items-loop-item-preserved t c =
-    items_more c.args.context.now.map.tables (profile_value c.args.context.now.source) (profile_value c.args.context.now.target) (scope c.args.scope.now) (forest c.args.nodes.now) c.args.items.now c.loop-item.item-index c.item-item.result
-    (failures c.args.found.now.items) c.loop-item.found c.check_item.new.found c.loop-item-test.true c.item-item.is c.in_ok-check_item.ensures c.loop-item.invariant
 
 pub check_item-returns-in_ok-check_level-in-Group : goal.check_item-returns-in_ok-check_level-in-Group
 check_item-returns-in_ok-check_level-in-Group t c =

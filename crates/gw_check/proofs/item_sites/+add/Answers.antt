@@ -1,6 +1,6 @@
 use Rattle.std.proofs.Common.{ap, ◌∙◌}
 use Rattle.gw_resolve.specs.Positions.{positions}
-use Rattle.gw_check.proofs.Adding.{group_made, flat_made, item_made}
+use Rattle.gw_check.proofs.Adding.{group_made, flat_made}
 use Rattle.gw_check.proofs.item_sites.+add.Goals as goal
 
 pub add_item-returns-in_ok-add_items-in-Group : goal.add_item-returns-in_ok-add_items-in-Group
@@ -20,7 +20,3 @@ add_item-returns-in_ok-add_items-in-Flat t c = λ tables.
     (ap positions c.deref-in-Flat-5.ensures.value ∙ c.in_ok-within-in-Flat.ensures) (ap positions c.deref-in-Flat-3.ensures.value ∙ c.in_ok-within-in-Flat.ensures)
     (c.deref-in-Flat-2.ensures.value ∙ c.in_ok-at-in-Flat.ensures tables) (c.deref-in-Flat-4.ensures.value ∙ c.in_ok-at-in-Flat.ensures tables)
     (c.in_ok-add_node-in-Flat.ensures tables) (c.in_ok-add_condition-in-Flat.ensures tables) (c.in_ok-add_items-in-Flat.ensures tables)
-
-pub add_items-loop-item-preserved : goal.add_items-loop-item-preserved
-add_items-loop-item-preserved t c = λ tables.
-    item_made tables _ _ _ _ _ c.args.sites.now.items c.loop-item.sites.items c.add_item.new.sites.items c.loop-item-test.true c.item-item.is (c.in_ok-add_item.ensures tables) (c.loop-item.invariant tables)

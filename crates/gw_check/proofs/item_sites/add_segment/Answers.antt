@@ -1,12 +1,7 @@
 use Rattle.std.proofs.Common.{ap, ◌∙◌}
 use Rattle.gw_resolve.specs.Positions.{positions}
-use Rattle.gw_check.proofs.Adding.{always_made, walked_made}
+use Rattle.gw_check.proofs.Adding.{walked_made}
 use Rattle.gw_check.proofs.item_sites.add_segment.Goals as goal
-
-pub returns-in_ok-add_rules-in-None : goal.returns-in_ok-add_rules-in-None
-returns-in_ok-add_rules-in-None c = λ tables.
-    always_made tables (positions c.args.scope.now) c.args.at.now c.args.segment.now c.args.sites.now.items c.add_site.new.sites.items c.add_condition.new.sites.items c.add_rules.new.sites.items c.deref.result.now c.in-None.is c.deref.ensures.value
-    (c.in_ok-add_site-in-None.ensures tables) (c.in_ok-add_condition-in-None.ensures tables) (c.in_ok-add_rules-in-None.ensures tables)
 
 pub returns-in_ok-add_rules-in-Some : goal.returns-in_ok-add_rules-in-Some
 returns-in_ok-add_rules-in-Some c = λ tables.
