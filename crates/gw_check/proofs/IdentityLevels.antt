@@ -8,7 +8,6 @@ use Rattle.gw_profile.specs.Line as line
 use Rattle.gw_profile.specs.Shapes.{GroupValue, Forest, ProfileValue, nothing, segment, group}
 use Rattle.gw_profile.specs.WellFormed as formed
 use Rattle.gw_profile.proofs.Facts.{tells}
-use Rattle.gw_validate.specs.Breaches.{is_forbidden}
 use Rattle.gw_resolve.specs.Failures.{at_line}
 use Rattle.gw_resolve.specs.Intervals.{never, once, of_card, add, multiply, sum, product}
 use Rattle.gw_resolve.specs.Places.{Element, a_segment, a_group, nodes_of, card_of, fields_of, count_of, count_at}

@@ -1,5 +1,5 @@
 -- The failures of a level and of its items, as the program finds them.
-use Rattle.std.specs.Prelude.{ℕ, List, map}
+use Rattle.std.specs.Prelude.{ℕ, List}
 use Rattle.gw_profile.specs.declared.shape.Usage.{Usage}
 use Rattle.gw_profile.specs.Shapes.{Forest}
 use Rattle.gw_profile.specs.declared.node.Node.{Node, Seg, Group'}
