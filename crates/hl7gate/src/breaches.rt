@@ -3,7 +3,7 @@ use crate::ended::Ended;
 use crate::files::read_text;
 use crate::maps::parse_profile;
 use crate::places::PlaceLines;
-use crate::refusals::{letters, write_place};
+use crate::refusals::write_place;
 use crate::report::{DONE, REFUSED, print_if_none, write_all};
 use clap::ArgMatches;
 use gw_er7::{Message, Place, ReadFault, read_block};
@@ -129,7 +129,7 @@ fn write_json(out: &mut Vec<u8>, said: BreachLine<'_>) -> io::Result<()> {
     } = said;
     let code = breach.code();
     let words = words_of(breach.kind);
-    let (first, second, third) = letters(breach.segment);
+    let segment = breach.segment.escape_ascii();
     let Breach {
         sequence,
         field,
@@ -140,7 +140,7 @@ fn write_json(out: &mut Vec<u8>, said: BreachLine<'_>) -> io::Result<()> {
     } = breach;
     write!(
         out,
-        "{{\"message\":{arrival},\"code\":{code},\"segment\":\"{first}{second}{third}\",\"sequence\":{sequence},"
+        "{{\"message\":{arrival},\"code\":{code},\"segment\":\"{segment}\",\"sequence\":{sequence},"
     )?;
     write!(
         out,
@@ -161,9 +161,9 @@ fn write_json(out: &mut Vec<u8>, said: BreachLine<'_>) -> io::Result<()> {
 /// The names that may stand there, as a list, where there are any.
 fn write_next_json(out: &mut Vec<u8>, next: &[[u8; 3]]) -> io::Result<()> {
     for (i, name) in next.iter().enumerate() {
-        let (first, second, third) = letters(*name);
+        let name = name.escape_ascii();
         let before = if i == 0 { ",\"may\":[" } else { "," };
-        write!(out, "{before}\"{first}{second}{third}\"")?;
+        write!(out, "{before}\"{name}\"")?;
     }
     if next.is_empty() {
         return Ok(());
@@ -174,7 +174,7 @@ fn write_next_json(out: &mut Vec<u8>, next: &[[u8; 3]]) -> io::Result<()> {
 /// The names that may stand there, in words: ` (PID may)`, ` (NK1 or PV1 may)`.
 fn write_next(out: &mut Vec<u8>, next: &[[u8; 3]]) -> io::Result<()> {
     for (i, name) in next.iter().enumerate() {
-        let (first, second, third) = letters(*name);
+        let name = name.escape_ascii();
         let before = if i == 0 {
             " ("
         } else if next.len() - i == 1 {
@@ -182,7 +182,7 @@ fn write_next(out: &mut Vec<u8>, next: &[[u8; 3]]) -> io::Result<()> {
         } else {
             ", "
         };
-        write!(out, "{before}{first}{second}{third}")?;
+        write!(out, "{before}{name}")?;
     }
     if next.is_empty() {
         return Ok(());
@@ -390,14 +390,14 @@ fn write_between(out: &mut Vec<u8>, form: Form, is_first: bool) -> io::Result<()
 fn write_spot(out: &mut Vec<u8>, form: Form, spot: Spot, count: u64) -> io::Result<()> {
     let [code, first, second, third, field, comp, sub] = spot;
     let name = [letter(first), letter(second), letter(third)];
-    let (first, second, third) = letters(name);
+    let name = name.escape_ascii();
     if form.is_json {
         return write!(
             out,
-            "{{\"code\":{code},\"segment\":\"{first}{second}{third}\",\"field\":{field},\"component\":{comp},\"subcomponent\":{sub},\"count\":{count}}}"
+            "{{\"code\":{code},\"segment\":\"{name}\",\"field\":{field},\"component\":{comp},\"subcomponent\":{sub},\"count\":{count}}}"
         );
     }
-    write!(out, "{code} {first}{second}{third}")?;
+    write!(out, "{code} {name}")?;
     if field > 0 {
         write!(out, "-{field}")?;
     }

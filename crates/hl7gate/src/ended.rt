@@ -1,68 +1,32 @@
 //! Why a command wasn't done.
 use gw_er7::ReadFault;
-use gw_maplang::MapFault;
-use gw_plan::PlanFault;
-use gw_profile::ProfileFault;
 use gw_stream::RunFault;
 use gw_validate::Breach;
 use std::alloc::{AllocError, AllocFailed};
 
-/// Why a command wasn't done. A path is a word of the command line; what was expected is printed for a line that is no line of its form.
+/// Why a command wasn't done. A path is a word of the command line.
 #[derive(Drop)]
 pub(crate) enum Ended<'a> {
     /// The digits of the time stamp aren't fourteen.
     Stamp,
     /// The word isn't a number from 1 to 1,000.
-    Count {
-        name: &'static str,
-    },
+    Count { name: &'static str },
     /// The address can't be listened on.
-    Unheard {
-        address: &'a str,
-    },
+    Unheard { address: &'a str },
     /// The file can't be opened or read.
-    Unread {
-        path: &'a str,
-    },
-    /// The text of the file isn't a profile.
-    Profile {
-        path: &'a str,
-        fault: ProfileFault,
-        expected: Option<String>,
-    },
-    /// The text of the file isn't a map.
-    Map {
-        path: &'a str,
-        fault: MapFault,
-        expected: Option<String>,
-    },
-    /// The text of the file isn't a plan.
-    Plan {
-        path: &'a str,
-        fault: PlanFault,
-        expected: Option<String>,
-    },
+    Unread { path: &'a str },
+    /// The text of a file isn't a profile, a map or a plan; this is printed.
+    Refused { said: String },
     /// The file can't be made or written.
-    Unwritten {
-        file: String,
-    },
+    Unwritten { file: String },
     /// Another process works in the folder.
-    Taken {
-        path: &'a str,
-    },
+    Taken { path: &'a str },
     /// No gateway answers in the folder.
-    Unanswered {
-        path: &'a str,
-    },
+    Unanswered { path: &'a str },
     /// The file of a spool is damaged at this byte.
-    Damaged {
-        file: String,
-        at: usize,
-    },
+    Damaged { file: String, at: usize },
     /// Standard input isn't a message.
-    Message {
-        fault: ReadFault,
-    },
+    Message { fault: ReadFault },
     /// The message breaks its profile.
     Breaks(Breach),
     /// The run ended early.

@@ -5,9 +5,10 @@ ghost use Rattle.gw_profile.specs.Seen.{profile_value};
 
 use crate::advice::{Refusal, Refused, Written};
 use crate::ended::Ended;
-use crate::expected;
+use crate::expected::{in_map, in_profile};
 use crate::files::{read_all, read_text};
 use crate::hints::print_hints;
+use crate::refusals::refused;
 use crate::report::{DONE, REFUSED, write_all};
 use clap::ArgMatches;
 use gw_check::CheckedMap;
@@ -31,12 +32,8 @@ pub(crate) fn parse_profile<'a>(
     match gw_profile::parse(alloc, text) {
         Ok(profile) => Ok(Arc::new(alloc, profile)?),
         Err(fault) => {
-            let expected = expected::in_profile(alloc, text, fault)?;
-            Err(Ended::Profile {
-                path,
-                fault,
-                expected,
-            })
+            let told = in_profile(alloc, text, fault)?;
+            Err(refused(alloc, "profile", path, fault.number(), &fault, told)?)
         }
     }
 }
@@ -105,12 +102,8 @@ pub(crate) fn parse_map<'a>(alloc: Global, written: &Written<'a>) -> Result<Map,
     match gw_maplang::parse(alloc, &written.text) {
         Ok(map) => Ok(map),
         Err(fault) => {
-            let expected = expected::in_map(alloc, &written.text, fault)?;
-            Err(Ended::Map {
-                path: written.path,
-                fault,
-                expected,
-            })
+            let told = in_map(alloc, &written.text, fault)?;
+            Err(refused(alloc, "map", written.path, fault.number(), &fault, told)?)
         }
     }
 }

@@ -2,9 +2,10 @@
 ghost use Rattle.std.specs.Prelude.{◌≡◌, false, length, All, IfOk};
 
 use crate::ended::Ended;
-use crate::expected;
+use crate::expected::in_plan;
 use crate::files::read_text;
 use crate::progress::{Counted, Watched};
+use crate::refusals;
 use crate::stamps::stamp_of;
 use clap::ArgMatches;
 use gw_plan::{Plan, PlanFault, Receiver};
@@ -24,12 +25,8 @@ pub(crate) fn refused<'a>(
     text: &[u8],
     fault: PlanFault,
 ) -> Result<Ended<'a>, AllocError> {
-    let expected = expected::in_plan(alloc, text, fault)?;
-    Ok(Ended::Plan {
-        path,
-        fault,
-        expected,
-    })
+    let told = in_plan(alloc, text, fault)?;
+    refusals::refused(alloc, "plan", path, fault.number(), &fault, told)
 }
 
 /// The plan of a file's text.

@@ -1,6 +1,6 @@
 //! What a command prints, and its status.
 use crate::ended::Ended;
-use crate::refusals::{print_breach, print_map, print_message, print_plan, print_profile};
+use crate::refusals::{print_breach, print_message};
 use clap::Error;
 use clap::error::ErrorKind;
 use gw_run::Report;
@@ -100,14 +100,6 @@ fn print_device<E: Write>(errors: &mut E, fault: RunFault, name: &str, said: &st
     status
 }
 
-// What is said, where something is.
-fn text_of(said: &Option<String>) -> Option<&str> {
-    match said {
-        None => None,
-        Some(said) => Some(said.as_str()),
-    }
-}
-
 /// Reports why a command wasn't done.
 pub(crate) fn tell<E: Write>(errors: &mut E, ended: &Ended<'_>) -> u8 {
     match ended {
@@ -130,21 +122,10 @@ pub(crate) fn tell<E: Write>(errors: &mut E, ended: &Ended<'_>) -> u8 {
                 "the file can't be opened or read",
             )
         }
-        Ended::Profile {
-            path,
-            fault,
-            expected,
-        } => print_profile(errors, path, *fault, text_of(expected)),
-        Ended::Map {
-            path,
-            fault,
-            expected,
-        } => print_map(errors, path, *fault, text_of(expected)),
-        Ended::Plan {
-            path,
-            fault,
-            expected,
-        } => print_plan(errors, path, *fault, text_of(expected)),
+        Ended::Refused { said } => {
+            let _ = writeln!(errors, "{said}");
+            REFUSED
+        }
         Ended::Unwritten { file } => {
             print_device(
                 errors,
