@@ -1,8 +1,8 @@
 //! What a person needs of a map that a rule refuses: the file and its line, what the rule demands, and what to do.
-use crate::elements::{Named, print_name};
+use crate::elements::Named;
 use crate::maps::ProfilePair;
 use crate::report::say;
-use crate::subjects::{Explanation, Searches, first_absent};
+use crate::subjects::{Telling, first_absent};
 use gw_check::{Site, SourceUse, site_at};
 use gw_maplang::Map;
 use gw_resolve::Failure;
@@ -12,6 +12,22 @@ use std::io::Write;
 
 /// The rules up to this one are on labels: of them the line itself says what they speak of.
 const LAST_OF_LABELS: u8 = 3;
+
+/// What each rule demands, and behind the colon what to do.
+const ADVICE: [&str; 12] = [
+    "each path leads somewhere in the source: write its labels as the source profile has them; a field is read of a segment",
+    "what is read comes once: walk it by `segment .. from` or `flat each` and read below that, or read what comes once",
+    "target labels stand at this level of the target profile and in its order, and those in a `flat` are one: move or rename the item",
+    "no more than the target takes: of a field take `first`, of a segment or group walk what comes less often or leave an item out, or let the target profile take more",
+    "what the target requires is always there: read what the source requires, or let the source profile require it or the target profile ask for less",
+    "each value stands in the target's table: translate by a `lookup`, or list the source's values in its profile",
+    "no value is longer than the target takes: give the source a length in its profile that the target takes, or let the target profile take more",
+    "what the target asks for is said: add an item or a rule for it, or make it O in the target profile",
+    "what the source requires is read or dropped: add a rule that reads it, or a `drop`",
+    "each value that is looked up has a row: add the row, or an `else`",
+    "the target doesn't want this: leave the rule out",
+    "a constant stands in the target's table and is no longer than the target takes: write another",
+];
 
 /// The file of a map, its text, and how many lines of the file come before it.
 #[derive(Drop)]
@@ -43,76 +59,26 @@ pub(crate) struct Refusal<'a> {
 
 /// What a rule demands, and what to do.
 pub(crate) fn advice(rule: u8) -> &'static str {
-    match rule {
-        1 => {
-            "each path leads somewhere in the source: write its labels as the source profile has them; a field is read of a segment"
-        }
-        2 => {
-            "what is read comes once: walk it by `segment .. from` or `flat each` and read below that, or read what comes once"
-        }
-        3 => {
-            "target labels stand at this level of the target profile and in its order, and those in a `flat` are one: move or rename the item"
-        }
-        4 => {
-            "no more than the target takes: of a field take `first`, of a segment or group walk what comes less often or leave an item out, or let the target profile take more"
-        }
-        5 => {
-            "what the target requires is always there: read what the source requires, or let the source profile require it or the target profile ask for less"
-        }
-        6 => {
-            "each value stands in the target's table: translate by a `lookup`, or list the source's values in its profile"
-        }
-        7 => {
-            "no value is longer than the target takes: give the source a length in its profile that the target takes, or let the target profile take more"
-        }
-        8 => {
-            "what the target asks for is said: add an item or a rule for it, or make it O in the target profile"
-        }
-        9 => {
-            "what the source requires is read or dropped: add a rule that reads it, or a `drop`"
-        }
-        10 => "each value that is looked up has a row: add the row, or an `else`",
-        11 => "the target doesn't want this: leave the rule out",
-        12 => {
-            "a constant stands in the target's table and is no longer than the target takes: write another"
-        }
-        _ => "",
-    }
+    ADVICE
+        .get(usize::from(rule).wrapping_sub(1))
+        .map_or("", |said| *said)
 }
 
-/// What a rule demands, without what to do.
-fn demand(rule: u8) -> &'static [u8] {
-    let said = advice(rule).as_bytes();
-    match cut(said, b':') {
-        None => said,
-        Some((said, _)) => said,
+/// What stands before the first of these bytes, and what stands behind it; without one all stands before it.
+fn cut(text: &[u8], byte: u8) -> (&[u8], &[u8]) {
+    match text.iter().position(|found| *found == byte) {
+        None => (text, &[]),
+        Some(at) => (&text[..at], &text[at + 1..]),
     }
-}
-
-/// What stands before the first of these bytes, and what stands behind it.
-fn cut(text: &[u8], byte: u8) -> Option<(&[u8], &[u8])> {
-    let at = text.iter().position(|found| *found == byte)?;
-    Some((&text[..at], &text[at + 1..]))
 }
 
 /// What comes behind the first `lines` lines.
 pub(crate) fn behind(text: &[u8], lines: u32) -> &[u8] {
     let mut rest = text;
     for _ in 0..lines {
-        match cut(rest, b'\n') {
-            None => return &[],
-            Some((_, behind)) => rest = behind,
-        }
+        rest = cut(rest, b'\n').1;
     }
     rest
-}
-
-/// The first line, without the blanks around it.
-fn first_line(text: &[u8]) -> &[u8] {
-    match cut(text, b'\n') {
-        None => text.trim_ascii(),
-        Some((line, _)) => line.trim_ascii(),
-    }
 }
 
 /// The line of this number, from 1, without the blanks around it.
@@ -120,189 +86,143 @@ pub(crate) fn line_at(text: &[u8], number: u32) -> &[u8] {
     if number == 0 {
         return &[];
     }
-    first_line(behind(text, number - 1))
+    cut(behind(text, number - 1), b'\n').0.trim_ascii()
 }
 
-/// The first failure of what something gives.
-fn first_given(failures: &[Failure]) -> Option<Failure> {
-    for failure in failures {
-        if !failure.mark.missing {
-            return Some(*failure);
-        }
-    }
-    None
-}
-
-impl<'a> Refusal<'a> {
+impl Refusal<'_> {
     /// The failures of each rule at each line.
     pub(crate) fn alike(&self, alloc: Global) -> Result<Alike, AllocError> {
         let mut alike: Alike = BTreeMap::new(alloc);
         for failure in self.refused.failures.as_slice() {
             let key = (failure.mark.line, failure.rule);
-            match alike.get_mut(&key) {
-                Some(others) => others.push(*failure)?,
-                None => {
-                    let mut first = Vec::new(alloc);
-                    first.push(*failure)?;
-                    alike.insert(key, first)?;
-                }
+            if !alike.contains_key(&key) {
+                alike.insert(key, Vec::new(alloc))?;
+            }
+            if let Some(others) = alike.get_mut(&key) {
+                others.push(*failure)?;
             }
         }
         Ok(alike)
     }
 
-    /// The numbers of the nodes that lead to what a line makes; the line of the map makes the whole.
-    fn node_made(&self, line: u32) -> &[usize] {
-        match site_at(&self.refused.used.sites, line) {
-            None => &[],
-            Some(site) => &site.target.at,
+    /// Reports the file with its line, what the failure speaks of, what to do, and what fails as well.
+    pub(crate) fn tell<E: Write>(self, alloc: Global, errors: &mut E, alike: &Alike) {
+        let Failure { rule, mark } = self.refused.least;
+        let mut telling = Telling {
+            refusal: self,
+            errors,
+            searches: BTreeMap::new(alloc),
+        };
+        telling.print_line(mark.line);
+        say(telling.errors, line_at(&self.written.text, mark.line));
+        say(telling.errors, b"\n");
+        if rule > LAST_OF_LABELS
+            && let Some(failures) = alike.get(&(mark.line, rule))
+        {
+            telling.print_subject(mark.line, failures);
+            say(telling.errors, b"\n");
         }
+        let _ = writeln!(telling.errors, "{}", advice(rule));
+        telling.print_others(alike);
+    }
+}
+
+impl<'a, E: Write> Telling<'a, '_, E> {
+    /// Reports where a line of the map stands: its file, and its number there.
+    fn print_line(&mut self, line: u32) {
+        let Written { path, above, .. } = self.refusal.written;
+        let number = above.saturating_add(line);
+        let _ = write!(self.errors, "{path}:{number}: ");
     }
 
     /// Reports the fields that are passed over, each as the line that drops it.
-    fn print_unread<E: Write>(&self, errors: &mut E) {
-        say(errors, b"neither read nor dropped:");
-        for field in self.refused.used.unread.as_slice() {
-            say(errors, b"\ndrop ");
-            print_name(
-                errors,
-                &self.sides.source,
-                Named::whole(&field.at, field.field),
-            );
+    fn print_unread(&mut self) {
+        let Refusal { sides, refused, .. } = self.refusal;
+        say(self.errors, b"neither read nor dropped:");
+        for field in refused.used.unread.as_slice() {
+            let named = Named::whole(&sides.source, &field.at, field.field);
+            let _ = write!(self.errors, "\ndrop {named}");
         }
     }
 
-    /// Reports what nothing gives, of the failures of a rule at a line. False where something gives it all.
-    fn print_missing<E: Write>(&self, errors: &mut E, failures: &[Failure]) -> bool {
-        let Some(first) = failures.first() else {
-            return false;
-        };
-        let made = self.node_made(first.mark.line);
+    /// Reports what nothing gives, of the failures of a rule at the line that makes this. False where something gives it all.
+    fn print_missing(&mut self, made: Option<&Site>, failures: &[Failure]) -> bool {
+        let at = made.map(|site| site.target.at.as_slice()).unwrap_or(&[]);
         let mut any = false;
         for Failure { mark, .. } in failures {
             if mark.missing {
                 if any {
-                    say(errors, b", ");
+                    say(self.errors, b", ");
                 }
                 any = true;
                 let named = Named {
                     child: mark.child,
-                    ..Named::whole(made, mark.field)
+                    ..Named::whole(&self.refusal.sides.target, at, mark.field)
                 };
-                print_name(errors, &self.sides.target, named);
+                let _ = write!(self.errors, "{named}");
             }
         }
         if any {
-            say(errors, b": no item and no rule gives it");
+            say(self.errors, b": no item and no rule gives it");
         }
         any
     }
 
-    /// What makes the part that a failure speaks of: its line or, of a segment or group that may be absent, what lets it be absent.
-    fn site_of(&self, failure: Failure) -> Option<&'a Site> {
-        let sites = self.refused.used.sites.as_slice();
-        let made = site_at(sites, failure.mark.line)?;
-        if failure.rule == 5 && failure.mark.field == 0 {
-            Some(first_absent(&self.sides.source, sites, made))
-        } else {
-            Some(made)
-        }
-    }
-
-    /// Reports what the line of a failure makes, and of what.
-    fn print_made<E: Write>(&self, errors: &mut E, failure: Failure, searches: &mut Searches<'a>) {
-        if let Some(site) = self.site_of(failure) {
-            let explanation = Explanation {
-                sides: self.sides,
-                map: &self.refused.map,
-                site,
-            };
-            explanation.tell(errors, failure, searches);
-        }
-    }
-
     /// Reports what the failures of a rule at a line speak of: all that nothing gives, and the first part that something gives.
-    fn print_subject<E: Write>(
-        &self,
-        errors: &mut E,
-        failures: &[Failure],
-        searches: &mut Searches<'a>,
-    ) {
-        let is_told = self.print_missing(errors, failures);
-        let Some(given) = first_given(failures) else {
+    /// Of a segment or group that may be absent that is what lets it be absent.
+    fn print_subject(&mut self, line: u32, failures: &[Failure]) {
+        let Refusal { sides, refused, .. } = self.refusal;
+        let sites = refused.used.sites.as_slice();
+        let made = site_at(sites, line);
+        let is_told = self.print_missing(made, failures);
+        let Some(given) = failures.iter().find(|failure| !failure.mark.missing) else {
             return;
         };
         if is_told {
-            say(errors, b"; ");
+            say(self.errors, b"; ");
         }
         if given.rule == 9 {
-            self.print_unread(errors);
-        } else {
-            self.print_made(errors, given, searches);
+            self.print_unread();
+        } else if let Some(made) = made {
+            let may_be_absent = given.rule == 5 && given.mark.field == 0;
+            let site = if may_be_absent {
+                first_absent(&sides.source, sites, made)
+            } else {
+                made
+            };
+            self.print_given(site, *given);
         }
     }
 
-    /// Reports a rule that fails as well, at the line that stands first in the text: of a label the line itself, and what the rule demands.
-    fn print_other<E: Write>(
-        &self,
-        errors: &mut E,
-        failures: &[Failure],
-        text: &[u8],
-        searches: &mut Searches<'a>,
-    ) {
-        let Some(first) = failures.first() else {
-            return;
-        };
-        let path = self.written.path;
-        let rule = first.rule;
-        let line = self.written.above.saturating_add(first.mark.line);
-        let _ = write!(errors, "{path}:{line}: K{rule}: ");
-        if rule <= LAST_OF_LABELS {
-            say(errors, first_line(text));
-            say(errors, b": ");
-            say(errors, demand(rule));
-        } else {
-            self.print_subject(errors, failures, searches);
-        }
-        say(errors, b"\n");
-    }
-
-    /// Reports how many more rules fail, and each in a line of its own.
-    fn print_others<E: Write>(&self, errors: &mut E, alike: &Alike, searches: &mut Searches<'a>) {
-        let least = self.refused.least;
+    /// Reports how many more rules fail, and each in a line of its own: of a label the line itself, and what the rule demands.
+    fn print_others(&mut self, alike: &Alike) {
+        let Refusal {
+            written,
+            refused,
+            ..
+        } = self.refusal;
         let more = alike.len().saturating_sub(1);
         if more == 0 {
             return;
         }
-        let _ = writeln!(errors, "and {more} more:");
-        let mut text = self.written.text.as_slice();
+        let _ = writeln!(self.errors, "and {more} more:");
+        let mut text = written.text.as_slice();
         let mut at = 1;
         for ((line, rule), failures) in alike {
             text = behind(text, line.saturating_sub(at));
             at = *line;
-            if (*line, *rule) != (least.mark.line, least.rule) {
-                self.print_other(errors, failures, text, searches);
+            if (*line, *rule) != (refused.least.mark.line, refused.least.rule) {
+                self.print_line(*line);
+                let _ = write!(self.errors, "K{rule}: ");
+                if *rule <= LAST_OF_LABELS {
+                    say(self.errors, line_at(text, 1));
+                    say(self.errors, b": ");
+                    say(self.errors, cut(advice(*rule).as_bytes(), b':').0);
+                } else {
+                    self.print_subject(*line, failures);
+                }
+                say(self.errors, b"\n");
             }
         }
-    }
-
-    /// Reports the file with its line, what the failure speaks of, what to do, and what fails as well.
-    pub(crate) fn tell<E: Write>(&self, alloc: Global, errors: &mut E, alike: &Alike) {
-        let mut searches = BTreeMap::new(alloc);
-        let Written { path, text, above } = self.written;
-        let rule = self.refused.least.rule;
-        let line = self.refused.least.mark.line;
-        let number = above.saturating_add(line);
-        let _ = write!(errors, "{path}:{number}: ");
-        say(errors, line_at(text, line));
-        say(errors, b"\n");
-        if rule > LAST_OF_LABELS
-            && let Some(failures) = alike.get(&(line, rule))
-        {
-            self.print_subject(errors, failures, &mut searches);
-            say(errors, b"\n");
-        }
-        let _ = writeln!(errors, "{}", advice(rule));
-        self.print_others(errors, alike, &mut searches);
     }
 }

@@ -1,13 +1,16 @@
-//! Elements of a profile in the field's words: their names, how often they come, and their values.
+//! Elements of a profile in the field's words: their names, and how often they come.
 use crate::report::say;
 use gw_check::{comp_at, field_at, sub_at};
-use gw_profile::{Card, CompShape, Node, Profile, SubShape, Usage};
-use gw_resolve::{CAP, Interval};
+use gw_profile::{CompShape, Node, Profile, SubShape, Usage};
+use gw_resolve::{CAP, Interval, nodes_within};
+use std::fmt;
+use std::fmt::{Display, Formatter};
 use std::io::Write;
 
-/// An element by its numbers: a node, or a node within that, or in it a field, a component, a subcomponent; 0 where the whole is meant.
+/// An element of a profile by its numbers: a node, or a node within that, or in it a field, a component, a subcomponent; 0 where the whole is meant.
 #[derive(Clone, Copy)]
 pub(crate) struct Named<'a> {
+    pub(crate) profile: &'a Profile,
     pub(crate) at: &'a [usize],
     pub(crate) child: Option<usize>,
     pub(crate) field: u32,
@@ -15,10 +18,65 @@ pub(crate) struct Named<'a> {
     pub(crate) sub: u32,
 }
 
+/// The label of a node, its usage, and the nodes within it.
+pub(crate) fn parts_of(node: &Node) -> (&[u8], Usage, &[Node]) {
+    match node {
+        Node::Seg(segment) => (&segment.label, segment.usage, &[]),
+        Node::Group(group) => (&group.label, group.usage, &group.nodes),
+    }
+}
+
+/// The node to which the numbers lead.
+pub(crate) fn node_at<'a>(profile: &'a Profile, at: &[usize]) -> Option<&'a Node> {
+    let (last, above) = at.split_last()?;
+    above
+        .iter()
+        .fold(
+            profile.nodes(),
+            |level, number| nodes_within(level, *number),
+        )
+        .get(*last)
+}
+
+/// As a map names it: the first component and subcomponent aren't named.
+impl Display for Named<'_> {
+    fn fmt<W: fmt::Write>(&self, f: &mut Formatter<W>) -> fmt::Result {
+        let Named {
+            field,
+            comp,
+            sub,
+            ..
+        } = *self;
+        let mut level = self.profile.nodes();
+        for (depth, number) in self.at.iter().chain(self.child.iter()).enumerate() {
+            let Some(node) = level.get(*number) else {
+                break;
+            };
+            let (label, _, below) = parts_of(node);
+            if depth > 0 {
+                write!(f, "/")?;
+            }
+            write!(f, "{}", label.escape_ascii())?;
+            level = below;
+        }
+        if field > 0 {
+            write!(f, "-{field}")?;
+        }
+        if comp > 1 || sub > 1 {
+            write!(f, ".{comp}")?;
+        }
+        if sub > 1 {
+            write!(f, ".{sub}")?;
+        }
+        Ok(())
+    }
+}
+
 impl<'a> Named<'a> {
     /// A node, or the field of this number of it.
-    pub(crate) fn whole(at: &'a [usize], field: u32) -> Named<'a> {
+    pub(crate) fn whole(profile: &'a Profile, at: &'a [usize], field: u32) -> Self {
         Named {
+            profile,
             at,
             child: None,
             field,
@@ -27,174 +85,81 @@ impl<'a> Named<'a> {
         }
     }
 
-    /// The same component, as a whole.
-    pub(crate) fn without_sub(self) -> Named<'a> {
-        Named { sub: 0, ..self }
+    /// A part of the same field.
+    pub(crate) fn part(self, comp: u32, sub: u32) -> Self {
+        Named { comp, sub, ..self }
     }
 
-    /// What a profile lists for a component.
-    pub(crate) fn comp_in<'p>(&self, profile: &'p Profile) -> Option<&'p CompShape> {
-        comp_at(profile, self.at, self.field, self.comp)
+    fn comp_shape(&self) -> Option<&'a CompShape> {
+        comp_at(self.profile, self.at, self.field, self.comp)
     }
 
-    /// What a profile lists for a subcomponent.
-    pub(crate) fn sub_in<'p>(&self, profile: &'p Profile) -> Option<&'p SubShape> {
-        sub_at(profile, self.at, self.field, self.comp, self.sub)
+    pub(crate) fn sub_shape(&self) -> Option<&'a SubShape> {
+        sub_at(self.profile, self.at, self.field, self.comp, self.sub)
     }
-}
 
-fn usage_of(node: &Node) -> Usage {
-    match node {
-        Node::Seg(segment) => segment.usage,
-        Node::Group(group) => group.usage,
+    /// The length that its profile lists, by the profile's count.
+    pub(crate) fn len(&self) -> Option<u32> {
+        self.sub_shape()?.len
     }
-}
 
-pub(crate) fn label_of(node: &Node) -> &[u8] {
-    match node {
-        Node::Seg(segment) => &segment.label,
-        Node::Group(group) => &group.label,
+    /// The name of the table that its profile lists.
+    pub(crate) fn table(&self) -> Option<&'a [u8]> {
+        self.sub_shape()?.table.as_deref()
     }
-}
 
-pub(crate) fn nodes_of(node: &Node) -> &[Node] {
-    match node {
-        Node::Seg(_) => &[],
-        Node::Group(group) => &group.nodes,
+    /// Whether a component is listed with this usage.
+    pub(crate) fn is_comp_of(&self, usage: Usage) -> bool {
+        self.comp_shape().is_some_and(|comp| comp.usage == usage)
     }
-}
 
-/// Names the labels that lead to a node, and to the node of this number within it.
-fn print_path<E: Write>(errors: &mut E, nodes: &[Node], at: &[usize], child: Option<usize>) {
-    let mut level = nodes;
-    let mut is_within = false;
-    for number in at.iter().chain(child.iter()) {
-        let Some(node) = level.get(*number) else {
-            return;
-        };
-        if is_within {
-            say(errors, b"/");
+    /// Its usage and cardinality, where its profile lists it.
+    fn listed(&self) -> Option<(Usage, Option<Interval>)> {
+        if self.field == 0 {
+            let node = node_at(self.profile, self.at)?;
+            let (_, usage, _) = parts_of(node);
+            Some((usage, Some(Interval::of(node.card()))))
+        } else if self.comp == 0 {
+            let field = field_at(self.profile, self.at, self.field)?;
+            Some((field.usage, Some(Interval::of(field.card))))
+        } else if self.sub == 0 {
+            Some((self.comp_shape()?.usage, None))
+        } else {
+            Some((self.sub_shape()?.usage, None))
         }
-        say(errors, label_of(node));
-        is_within = true;
-        level = nodes_of(node);
+    }
+
+    /// Reports how it may come, by all of its numbers.
+    pub(crate) fn print_usage<E: Write>(&self, errors: &mut E) {
+        let _ = write!(errors, "{}", self.part(0, 0));
+        for number in [self.comp, self.sub] {
+            if number > 0 {
+                let _ = write!(errors, ".{number}");
+            }
+        }
+        match self.listed() {
+            None => {
+                say(errors, b" isn't listed");
+            }
+            Some((usage, count)) => {
+                let _ = write!(errors, " is {usage:?}");
+                if let Some(count) = count {
+                    say(errors, b" ");
+                    print_interval(errors, count);
+                }
+            }
+        }
+        let _ = write!(errors, " in {}", self.profile.name().escape_ascii());
     }
 }
 
-/// Reports an element as a map names it: the first component and subcomponent aren't named.
-pub(crate) fn print_name<E: Write>(errors: &mut E, profile: &Profile, named: Named<'_>) {
-    let Named {
-        at,
-        child,
-        field,
-        comp,
-        sub,
-    } = named;
-    print_path(errors, profile.nodes(), at, child);
-    if field > 0 {
-        let _ = write!(errors, "-{field}");
-    }
-    if comp > 1 || sub > 1 {
-        let _ = write!(errors, ".{comp}");
-    }
-    if sub > 1 {
-        let _ = write!(errors, ".{sub}");
-    }
-}
-
-fn usage_word(usage: Usage) -> &'static str {
-    match usage {
-        Usage::R => "R",
-        Usage::RE => "RE",
-        Usage::O => "O",
-        Usage::X => "X",
-    }
-}
-
-/// Reports a usage, and how often an element may come.
-fn print_usage<E: Write>(errors: &mut E, usage: Usage, card: Option<Card>) {
-    say(errors, usage_word(usage).as_bytes());
-    let Some(card) = card else {
-        return;
-    };
-    let min = card.min;
-    let _ = match card.max {
-        None => write!(errors, " {min}..*"),
-        Some(max) => write!(errors, " {min}..{max}"),
-    };
-}
-
-/// A number at the cap, of which no more is known.
-const AT_THE_CAP: &[u8] = b"more than 4,294,967,295";
-
-/// Reports how often something comes.
+/// Reports how often something comes. At the cap no more is known.
 pub(crate) fn print_interval<E: Write>(errors: &mut E, count: Interval) {
-    let Interval { least, greatest } = count;
-    if least >= CAP {
-        say(errors, AT_THE_CAP);
-        return;
-    }
-    let Some(most) = greatest else {
-        let _ = write!(errors, "{least}..*");
-        return;
+    let least = count.least;
+    let _ = match count.greatest {
+        _ if least >= CAP => write!(errors, "more than 4,294,967,295"),
+        None => write!(errors, "{least}..*"),
+        Some(most) if most < CAP => write!(errors, "{least}..{most}"),
+        Some(_) => write!(errors, "{least} to more than 4,294,967,295"),
     };
-    if most < CAP {
-        let _ = write!(errors, "{least}..{most}");
-        return;
-    }
-    let _ = write!(errors, "{least} to ");
-    say(errors, AT_THE_CAP);
-}
-
-/// Reports the name of a profile.
-pub(crate) fn print_profile<E: Write>(errors: &mut E, profile: &Profile) {
-    say(errors, b" in ");
-    say(errors, profile.name());
-}
-
-/// The node to which the numbers lead.
-pub(crate) fn node_at<'a>(nodes: &'a [Node], at: &[usize]) -> Option<&'a Node> {
-    let mut level = nodes;
-    let mut found = None;
-    for number in at {
-        let node = level.get(*number)?;
-        level = nodes_of(node);
-        found = Some(node);
-    }
-    found
-}
-
-/// How an element may come, where a profile lists it.
-fn listed(profile: &Profile, named: Named<'_>) -> Option<(Usage, Option<Card>)> {
-    if named.field == 0 {
-        let node = node_at(profile.nodes(), named.at)?;
-        Some((usage_of(node), Some(node.card())))
-    } else if named.comp == 0 {
-        let field = field_at(profile, named.at, named.field)?;
-        Some((field.usage, Some(field.card)))
-    } else if named.sub == 0 {
-        Some((named.comp_in(profile)?.usage, None))
-    } else {
-        Some((named.sub_in(profile)?.usage, None))
-    }
-}
-
-/// Reports how an element may come, by all of its numbers.
-pub(crate) fn print_element<E: Write>(errors: &mut E, profile: &Profile, named: Named<'_>) {
-    print_name(errors, profile, Named::whole(named.at, named.field));
-    for number in [named.comp, named.sub] {
-        if number > 0 {
-            let _ = write!(errors, ".{number}");
-        }
-    }
-    match listed(profile, named) {
-        None => {
-            say(errors, b" isn't listed");
-        }
-        Some((usage, card)) => {
-            say(errors, b" is ");
-            print_usage(errors, usage, card);
-        }
-    }
-    print_profile(errors, profile);
 }

@@ -3,7 +3,7 @@ ghost use Rattle.std.specs.Prelude.{IfOk};
 
 use crate::advice::{Refusal, Refused, Written};
 use crate::breaches::{Spot, spot_of, words_of};
-use crate::elements::{Named, print_name};
+use crate::elements::Named;
 use crate::ended::Ended;
 use crate::maps::{
     Judged, ProfilePair, judge, read_sides, read_written, write_accepted, write_refusal,
@@ -80,9 +80,8 @@ fn write_dropping(
     out.write_all(text)?;
     out.write_all(b"\n")?;
     for field in unread {
-        out.write_all(b"drop ")?;
-        print_name(out, source, Named::whole(&field.at, field.field));
-        out.write_all(b"\n")?;
+        let named = Named::whole(source, &field.at, field.field);
+        writeln!(out, "drop {named}")?;
     }
     Ok(())
 }
@@ -372,8 +371,8 @@ fn left_out(
 /// The fields that an accepted map leaves out, a line each.
 fn write_left_out(out: &mut Vec<u8>, source: &Profile, fields: &[FieldAt]) -> io::Result<()> {
     for field in fields {
-        print_name(out, source, Named::whole(&field.at, field.field));
-        out.write_all(b": left out\n")?;
+        let named = Named::whole(source, &field.at, field.field);
+        writeln!(out, "{named}: left out")?;
     }
     Ok(())
 }

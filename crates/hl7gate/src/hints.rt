@@ -1,6 +1,6 @@
 //! What `check --hints` says of a map that the rules allow: which `drop` lines name what is read too, and that the source doesn't list MSH-18.
 use crate::advice::Written;
-use crate::elements::{label_of, nodes_of};
+use crate::elements::parts_of;
 use crate::subjects::read_of;
 use gw_check::{CheckedMap, Site, sites};
 use gw_maplang::Dropped;
@@ -15,8 +15,9 @@ const CHARACTER_SET: u32 = 18;
 /// The number of the node with this label, and the nodes below it.
 fn labelled<'p>(level: &'p [Node], label: &[u8]) -> Option<(usize, &'p [Node])> {
     for (number, node) in level.iter().enumerate() {
-        if label_of(node) == label {
-            return Some((number, nodes_of(node)));
+        let (found, _, below) = parts_of(node);
+        if found == label {
+            return Some((number, below));
         }
     }
     None

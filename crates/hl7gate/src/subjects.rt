@@ -1,48 +1,35 @@
 //! What a failure of a map speaks of, in the field's words: the part of the target that fails, what the source has for it, and what prevents them.
+use crate::advice::Refusal;
 use crate::chosen::condition_at;
-use crate::elements::{Named, node_at, print_element, print_interval, print_name, print_profile};
+use crate::elements::{Named, node_at, print_interval};
 use crate::maps::ProfilePair;
 use crate::report::say;
 use gw_check::{ElementPath, Origin, Site, Taker, untaken};
-use gw_maplang::Map;
-use gw_profile::{Count, Profile, SubShape, Usage, measure};
+use gw_profile::{Count, Profile, Usage, measure};
 use gw_resolve::{Failure, FailureSite};
 use std::collections::BTreeMap;
 use std::io::Write;
 
-/// What a line of a map makes, with the map and its profiles.
-#[derive(Clone, Copy)]
-pub(crate) struct Explanation<'a> {
-    pub(crate) sides: &'a ProfilePair,
-    pub(crate) map: &'a Map,
-    pub(crate) site: &'a Site,
-}
-
-/// The part of the target that fails, and what the source has for it, where the line reads anything.
-#[derive(Clone, Copy)]
-struct Parts<'a> {
-    target: Named<'a>,
-    source: Option<Named<'a>>,
-}
-
-/// What takes a text: a table of the target, rows of the map, or a length of the target.
+/// What takes a text: a table of the target, rows of the map, or a length of the target, where it has one.
 #[derive(Clone, Copy, PartialEq, Eq, PartialOrd, Ord)]
-enum TakenBy<'a> {
-    Table(&'a [u8]),
+pub(crate) enum TakenBy<'a> {
+    Table(Option<&'a [u8]>),
     Rows(&'a [u8]),
-    Length(u32),
+    Length(Option<u32>),
 }
 
-/// A search for a text that isn't taken: the source's table, the length up to which it is read, and what takes it.
-#[derive(Clone, Copy, PartialEq, Eq, PartialOrd, Ord)]
-pub(crate) struct Search<'a> {
-    table: &'a [u8],
-    len: Option<u32>,
-    by: TakenBy<'a>,
+/// What searches for a text that isn't taken found: by the source's table, the length up to which it is read, and what takes it.
+pub(crate) type Searches<'a> = BTreeMap<(&'a [u8], Option<u32>, TakenBy<'a>), Option<&'a [u8]>>;
+
+/// What is told of a refused map, and to whom.
+#[derive(Drop)]
+pub(crate) struct Telling<'a, 'e, E> {
+    pub(crate) refusal: Refusal<'a>,
+    pub(crate) errors: &'e mut E,
+    pub(crate) searches: Searches<'a>,
 }
 
-/// What such searches found.
-pub(crate) type Searches<'a> = BTreeMap<Search<'a>, Option<&'a [u8]>>;
+// ---- what a line reads
 
 /// What a line reads, where it reads anything.
 pub(crate) fn read_of(site: &Site) -> Option<&ElementPath> {
@@ -56,58 +43,25 @@ pub(crate) fn read_of(site: &Site) -> Option<&ElementPath> {
 
 /// Whether a line copies a field: then each of its parts is that of the same numbers.
 fn is_copy(site: &Site) -> bool {
-    match &site.origin {
-        Origin::Read(_) => site.target.field > 0 && site.target.comp == 0,
-        _ => false,
-    }
+    matches!(&site.origin, Origin::Read(_)) && site.target.field > 0 && site.target.comp == 0
 }
 
 /// What the source has for a part of what a line makes.
-fn source_of(site: &Site, mark: FailureSite) -> Option<Named<'_>> {
+fn source_of<'a>(source: &'a Profile, site: &'a Site, mark: FailureSite) -> Option<Named<'a>> {
     let from = read_of(site)?;
-    let (comp, sub) = if is_copy(site) {
-        (mark.comp, mark.sub)
+    let field = Named::whole(source, &from.at, from.field);
+    if is_copy(site) {
+        Some(field.part(mark.comp, mark.sub))
     } else {
-        (from.comp, from.sub)
-    };
-    Some(Named {
-        comp,
-        sub,
-        ..Named::whole(&from.at, from.field)
-    })
-}
-
-/// The part of what a line makes that a failure speaks of.
-fn parts_at(site: &Site, mark: FailureSite) -> Parts<'_> {
-    let target = Named {
-        comp: mark.comp,
-        sub: mark.sub,
-        ..Named::whole(&site.target.at, mark.field)
-    };
-    Parts {
-        target,
-        source: source_of(site, mark),
-    }
-}
-
-// ---- how often
-
-/// Whether a component is listed with this usage.
-fn is_comp_of(profile: &Profile, named: Named<'_>, usage: Usage) -> bool {
-    match named.comp_in(profile) {
-        None => false,
-        Some(comp) => comp.usage == usage,
+        Some(field.part(from.comp, from.sub))
     }
 }
 
 /// The first node on the way to what is read that may be absent, among those that no item around the line walks.
-fn absent_on_the_way<'a>(profile: &Profile, from: &'a ElementPath) -> Option<&'a [usize]> {
-    for (i, _number) in from.at.iter().enumerate() {
-        let at = &from.at[..=i];
-        if i >= from.walked
-            && let Some(node) = node_at(profile.nodes(), at)
-            && node.card().min == 0
-        {
+fn absent_on_the_way<'a>(source: &Profile, from: &'a ElementPath) -> Option<&'a [usize]> {
+    for end in from.walked..from.at.len() {
+        let at = &from.at[..=end];
+        if node_at(source, at).is_some_and(|node| node.card().min == 0) {
             return Some(at);
         }
     }
@@ -116,27 +70,21 @@ fn absent_on_the_way<'a>(profile: &Profile, from: &'a ElementPath) -> Option<&'a
 
 /// Whether this is what the `where` of an item reads: an item reads no other field.
 fn is_condition(site: &Site) -> bool {
-    match read_of(site) {
-        None => false,
-        Some(from) => site.target.field == 0 && from.field > 0,
-    }
+    site.target.field == 0 && read_of(site).is_some_and(|from| from.field > 0)
 }
 
 /// Whether a segment or group that a line makes may be absent by what it reads, or by its `where`.
 fn may_give_none(source: &Profile, site: &Site) -> bool {
-    match read_of(site) {
-        None => false,
-        Some(from) => is_condition(site) || absent_on_the_way(source, from).is_some(),
-    }
+    is_condition(site)
+        || read_of(site).is_some_and(|from| absent_on_the_way(source, from).is_some())
 }
 
 /// Of all that makes the segment or group that a line makes, from that line on, the first that may be absent; the line itself where none may.
 pub(crate) fn first_absent<'a>(source: &Profile, sites: &'a [Site], made: &'a Site) -> &'a Site {
-    let target = made.target.at.as_slice();
     for site in sites {
         if site.line >= made.line
             && site.target.field == 0
-            && site.target.at.as_slice() == target
+            && site.target.at.as_slice() == made.target.at.as_slice()
             && may_give_none(source, site)
         {
             return site;
@@ -145,298 +93,205 @@ pub(crate) fn first_absent<'a>(source: &Profile, sites: &'a [Site], made: &'a Si
     made
 }
 
-/// Reports an element of a profile; of a forbidden component the whole.
-fn print_part<E: Write>(errors: &mut E, profile: &Profile, named: Named<'_>) {
-    if is_comp_of(profile, named, Usage::X) {
-        print_element(errors, profile, named.without_sub());
+// ---- how often, how long, and which values
+
+/// The element, or of a forbidden component the whole.
+fn or_forbidden(named: Named<'_>) -> Named<'_> {
+    if named.is_comp_of(Usage::X) {
+        named.part(named.comp, 0)
     } else {
-        print_element(errors, profile, named);
+        named
     }
 }
 
-/// Reports whether what is read is there: by its field, or by its component where that may be absent.
-fn print_read<E: Write>(errors: &mut E, profile: &Profile, named: Named<'_>) {
-    if is_comp_of(profile, named, Usage::R) {
-        print_element(errors, profile, Named::whole(named.at, named.field));
+/// What says whether an element is there: its field, or its component where that may be absent.
+fn or_field(named: Named<'_>) -> Named<'_> {
+    if named.is_comp_of(Usage::R) {
+        named.part(0, 0)
     } else {
-        print_element(errors, profile, named.without_sub());
+        named.part(named.comp, 0)
     }
-}
-
-impl Explanation<'_> {
-    /// What a `where` at the line asks for a value, where the whole of what it makes depends on that.
-    fn asked_by_where(&self, part: FailureSite) -> Option<Named<'_>> {
-        let path = read_of(self.site)?;
-        let (comp, sub) = if is_condition(self.site) {
-            (path.comp, path.sub)
-        } else if part.field > 0 && part.comp == 0 {
-            let place = condition_at(self.map.items(), self.site.line)?.place;
-            (place.comp, place.sub)
-        } else {
-            return None;
-        };
-        Some(Named {
-            comp,
-            sub,
-            ..Named::whole(&path.at, path.field)
-        })
-    }
-
-    /// Reports why what is read may be absent: by `where`, by a node on the way to it, or by itself.
-    fn print_absent<E: Write>(&self, errors: &mut E, mark: FailureSite, from: Named<'_>) {
-        let source = &self.sides.source;
-        if let Some(asked) = self.asked_by_where(mark) {
-            say(errors, b"only some values of ");
-            print_name(errors, source, asked);
-            print_profile(errors, source);
-            say(errors, b" give it");
-        } else if let Some(path) = read_of(self.site)
-            && let Some(at) = absent_on_the_way(source, path)
-        {
-            print_element(errors, source, Named::whole(at, 0));
-        } else {
-            print_read(errors, source, from);
-        }
-    }
-
-    /// Reports what the source has for a part of the target of which rule 5 or 11 fails.
-    fn print_source<E: Write>(&self, errors: &mut E, rule: u8, mark: FailureSite, from: Named<'_>) {
-        let source = &self.sides.source;
-        say(errors, b", and ");
-        if is_copy(self.site) && mark.comp > 0 {
-            print_part(errors, source, from);
-        } else if rule == 5 {
-            self.print_absent(errors, mark, from);
-        } else {
-            print_read(errors, source, from);
-        }
-    }
-
-    /// Reports how often the target asks for a part of what the line makes, and what gives it.
-    fn print_often<E: Write>(&self, errors: &mut E, failure: Failure, parts: Parts<'_>) {
-        let Failure { rule, mark } = failure;
-        print_part(errors, &self.sides.target, parts.target);
-        if let (4, Some(count)) = (rule, mark.count) {
-            say(errors, b", and the map gives it ");
-            print_interval(errors, count);
-        } else if rule == 5 && mark.comp > 0 && !is_copy(self.site) {
-            say(errors, b", and no leaf is always there for it");
-        } else if let Some(from) = parts.source {
-            self.print_source(errors, rule, mark, from);
-        }
-    }
-}
-
-// ---- lengths
-
-/// What lengths of a profile count.
-fn unit(count: Count) -> &'static str {
-    match count {
-        Count::Octets => "octets",
-        Count::Characters => "characters",
-    }
-}
-
-fn print_most<E: Write>(errors: &mut E, len: Option<u32>, count: Count) {
-    let unit = unit(count);
-    let _ = match len {
-        None => write!(errors, "any number of {unit}"),
-        Some(most) => write!(errors, "at most {most} {unit}"),
-    };
-}
-
-fn len_of(sub: Option<&SubShape>) -> Option<u32> {
-    sub?.len
 }
 
 /// Reports how long a text of an element may be, by the count of its profile.
-fn print_length<E: Write>(errors: &mut E, profile: &Profile, named: Named<'_>) {
-    print_name(errors, profile, named);
-    say(errors, b" has ");
-    print_most(errors, len_of(named.sub_in(profile)), profile.count());
-    print_profile(errors, profile);
-}
-
-// ---- tables
-
-fn table_of(sub: Option<&SubShape>) -> Option<&[u8]> {
-    match &sub?.table {
-        None => None,
-        Some(name) => Some(name.as_slice()),
-    }
+fn print_length<E: Write>(errors: &mut E, named: Named<'_>) {
+    let unit = match named.profile.count() {
+        Count::Octets => "octets",
+        Count::Characters => "characters",
+    };
+    let profile = named.profile.name().escape_ascii();
+    let _ = match named.len() {
+        None => write!(errors, "{named} has any number of {unit} in {profile}"),
+        Some(most) => write!(errors, "{named} has at most {most} {unit} in {profile}"),
+    };
 }
 
 /// Reports the table of an element.
-fn print_table<E: Write>(errors: &mut E, profile: &Profile, named: Named<'_>) {
-    print_name(errors, profile, named);
-    match table_of(named.sub_in(profile)) {
-        None => {
-            say(errors, b" has no table");
-        }
+fn print_table<E: Write>(errors: &mut E, named: Named<'_>) {
+    let profile = named.profile.name().escape_ascii();
+    let _ = match named.table() {
+        None => write!(errors, "{named} has no table in {profile}"),
         Some(name) => {
-            say(errors, b" has the table ");
-            say(errors, name);
+            let name = name.escape_ascii();
+            write!(errors, "{named} has the table {name} in {profile}")
+        }
+    };
+}
+
+impl<'a, E: Write> Telling<'a, '_, E> {
+    /// What a `where` at the line asks for a value, where the whole of what it makes depends on that.
+    fn asked_by_where(&self, site: &'a Site, part: FailureSite) -> Option<Named<'a>> {
+        let Refusal { sides, refused, .. } = self.refusal;
+        let path = read_of(site)?;
+        let field = Named::whole(&sides.source, &path.at, path.field);
+        if is_condition(site) {
+            Some(field.part(path.comp, path.sub))
+        } else if part.field > 0 && part.comp == 0 {
+            let place = condition_at(refused.map.items(), site.line)?.place;
+            Some(field.part(place.comp, place.sub))
+        } else {
+            None
         }
     }
-    print_profile(errors, profile);
-}
 
-// ---- what prevents a map
-
-/// Why a text isn't taken.
-fn why(by: TakenBy<'_>) -> &'static [u8] {
-    match by {
-        TakenBy::Table(_) => b" is unknown to the target",
-        TakenBy::Rows(_) => b" has no row",
-        TakenBy::Length(_) => b" is longer",
+    /// Reports why what is read may be absent: by `where`, by a node on the way to it, or by itself.
+    fn print_absent(&mut self, site: &'a Site, mark: FailureSite, from: Named<'a>) {
+        if let Some(asked) = self.asked_by_where(site, mark) {
+            let source = from.profile.name().escape_ascii();
+            let _ = write!(
+                self.errors,
+                "only some values of {asked} in {source} give it"
+            );
+        } else if let Some(path) = read_of(site)
+            && let Some(at) = absent_on_the_way(from.profile, path)
+        {
+            Named::whole(from.profile, at, 0).print_usage(self.errors);
+        } else {
+            or_field(from).print_usage(self.errors);
+        }
     }
-}
 
-impl<'a> Explanation<'a> {
+    /// Reports how often the target asks for a part of what a line makes, and what gives it.
+    fn print_often(
+        &mut self,
+        site: &'a Site,
+        failure: Failure,
+        to: Named<'a>,
+        from: Option<Named<'a>>,
+    ) {
+        let Failure { rule, mark } = failure;
+        or_forbidden(to).print_usage(self.errors);
+        if let (4, Some(count)) = (rule, mark.count) {
+            say(self.errors, b", and the map gives it ");
+            print_interval(self.errors, count);
+        } else if rule == 5 && mark.comp > 0 && !is_copy(site) {
+            say(self.errors, b", and no leaf is always there for it");
+        } else if let Some(from) = from {
+            say(self.errors, b", and ");
+            if is_copy(site) && mark.comp > 0 {
+                or_forbidden(from).print_usage(self.errors);
+            } else if rule == 5 {
+                self.print_absent(site, mark, from);
+            } else {
+                or_field(from).print_usage(self.errors);
+            }
+        }
+    }
+
     /// Reports what the map makes of a text, where it isn't copied.
-    fn print_change<E: Write>(&self, errors: &mut E) -> bool {
-        match &self.site.origin {
+    fn print_change(&mut self, site: &Site) -> bool {
+        let _ = match &site.origin {
             Origin::LookedUp(name, _) => {
-                say(errors, b", looked up in ");
-                say(errors, name);
-                true
+                write!(self.errors, ", looked up in {}", name.escape_ascii())
             }
             Origin::Dated(digits, _) => {
-                let _ = write!(errors, ", of which the map takes the first {digits} digits");
-                true
+                write!(
+                    self.errors,
+                    ", of which the map takes the first {digits} digits"
+                )
             }
-            _ => false,
-        }
-    }
-
-    /// What takes a text, where the target or the map has it.
-    fn taker(&self, by: TakenBy<'a>) -> Option<Taker<'a>> {
-        let target = &self.sides.target;
-        match by {
-            TakenBy::Table(name) => Some(Taker::Table(target.table(name)?)),
-            TakenBy::Rows(name) => Some(Taker::Rows(self.map.table(name)?)),
-            TakenBy::Length(most) => Some(Taker::Length(target.count(), Some(most))),
-        }
-    }
-
-    /// The first text that the source lists for a subcomponent and that isn't taken. It is looked for once for all failures of the same tables.
-    fn untaken(
-        &self,
-        from: &'a SubShape,
-        by: TakenBy<'a>,
-        searches: &mut Searches<'a>,
-    ) -> Option<&'a [u8]> {
-        let search = Search {
-            table: table_of(Some(from))?,
-            len: from.len,
-            by,
+            _ => return false,
         };
-        if let Some(found) = searches.get(&search) {
+        true
+    }
+
+    /// The first text that the source lists for an element and that isn't taken. It is looked for once for all failures of the same tables.
+    fn untaken(&mut self, from: Named<'a>, by: TakenBy<'a>) -> Option<&'a [u8]> {
+        let from = from.sub_shape()?;
+        let search = (from.table.as_deref()?, from.len, by);
+        if let Some(found) = self.searches.get(&search) {
             return *found;
         }
-        let found = untaken(&self.sides.source, from, self.taker(by)?);
+        let Refusal { sides, refused, .. } = self.refusal;
+        let taker = match by {
+            TakenBy::Table(name) => Taker::Table(sides.target.table(name?)?),
+            TakenBy::Rows(name) => Taker::Rows(refused.map.table(name)?),
+            TakenBy::Length(most) => Taker::Length(sides.target.count(), most),
+        };
+        let found = untaken(&sides.source, from, taker);
         // (what can't be kept is looked for anew)
-        let _ = searches.insert(search, found);
+        let _ = self.searches.insert(search, found);
         found
     }
 
     /// Reports a text that the source lists and that isn't taken, where there is one.
-    fn print_untaken<E: Write>(
-        &self,
-        errors: &mut E,
-        from: Named<'_>,
-        by: TakenBy<'a>,
-        searches: &mut Searches<'a>,
-    ) {
-        if let Some(from) = from.sub_in(&self.sides.source)
-            && let Some(text) = self.untaken(from, by, searches)
-        {
-            say(errors, b": ");
-            say(errors, text);
-            say(errors, why(by));
+    fn print_untaken(&mut self, from: Named<'a>, by: TakenBy<'a>) {
+        if let Some(text) = self.untaken(from, by) {
+            say(self.errors, b": ");
+            say(self.errors, text);
+            let why: &[u8] = match by {
+                TakenBy::Table(_) => b" is unknown to the target",
+                TakenBy::Rows(_) => b" has no row",
+                TakenBy::Length(_) => b" is longer",
+            };
+            say(self.errors, why);
         }
     }
 
-    /// Reports the table of the target and that of the source, and a text that only the source's has.
-    fn print_strange<E: Write>(
-        &self,
-        errors: &mut E,
-        to: Named<'_>,
-        from: Named<'_>,
-        searches: &mut Searches<'a>,
-    ) {
-        print_table(errors, &self.sides.target, to);
-        say(errors, b", and ");
-        print_table(errors, &self.sides.source, from);
-        if !self.print_change(errors)
-            && let Some(name) = table_of(to.sub_in(&self.sides.target))
-        {
-            self.print_untaken(errors, from, TakenBy::Table(name), searches);
-        }
-    }
-
-    /// Reports the length that the target takes, and that of the source.
-    fn print_long<E: Write>(
-        &self,
-        errors: &mut E,
-        to: Named<'_>,
-        from: Named<'_>,
-        searches: &mut Searches<'a>,
-    ) {
-        print_length(errors, &self.sides.target, to);
-        say(errors, b", and ");
-        print_length(errors, &self.sides.source, from);
-        if !self.print_change(errors)
-            && let Some(most) = len_of(to.sub_in(&self.sides.target))
-        {
-            self.print_untaken(errors, from, TakenBy::Length(most), searches);
-        }
-    }
-
-    /// Reports the table of what is looked up, and a text that has no row.
-    fn print_unrowed<E: Write>(
-        &self,
-        errors: &mut E,
-        parts: Parts<'_>,
-        searches: &mut Searches<'a>,
-    ) {
-        if let (Origin::LookedUp(name, _), Some(from)) = (&self.site.origin, parts.source) {
-            print_table(errors, &self.sides.source, from);
-            self.print_untaken(errors, from, TakenBy::Rows(name), searches);
+    /// Reports the length that the target takes, or its table, and that of the source, and a text that only the source has.
+    fn print_values(&mut self, site: &Site, rule: u8, to: Named<'a>, from: Named<'a>) {
+        let by = if rule == 7 {
+            print_length(self.errors, to);
+            say(self.errors, b", and ");
+            print_length(self.errors, from);
+            TakenBy::Length(to.len())
+        } else {
+            print_table(self.errors, to);
+            say(self.errors, b", and ");
+            print_table(self.errors, from);
+            TakenBy::Table(to.table())
+        };
+        if !self.print_change(site) {
+            self.print_untaken(from, by);
         }
     }
 
     /// Reports a constant, and what the target takes.
-    fn print_constant<E: Write>(&self, errors: &mut E, to: Named<'_>) {
-        let Origin::Text(text) = &self.site.origin else {
-            return;
-        };
-        let target = &self.sides.target;
-        let size = measure(target.count(), text);
-        match len_of(to.sub_in(target)) {
+    fn print_constant(&mut self, text: &[u8], to: Named<'a>) {
+        let size = measure(to.profile.count(), text);
+        match to.len() {
             Some(most) if size > u64::from(most) => {
-                print_length(errors, target, to);
-                let _ = write!(errors, ", and this has {size}");
+                print_length(self.errors, to);
+                let _ = write!(self.errors, ", and this has {size}");
             }
-            _ => print_table(errors, target, to),
+            _ => print_table(self.errors, to),
         }
     }
 
-    /// Reports what a failure at the line speaks of.
-    pub(crate) fn tell<E: Write>(
-        &self,
-        errors: &mut E,
-        failure: Failure,
-        searches: &mut Searches<'a>,
-    ) {
-        let parts = parts_at(self.site, failure.mark);
-        match (failure.rule, parts.source) {
-            (6, Some(from)) => self.print_strange(errors, parts.target, from, searches),
-            (7, Some(from)) => self.print_long(errors, parts.target, from, searches),
-            (6 | 7, None) => {}
-            (10, _) => self.print_unrowed(errors, parts, searches),
-            (12, _) => self.print_constant(errors, parts.target),
-            _ => self.print_often(errors, failure, parts),
+    /// Reports what a failure speaks of, at a line that makes this.
+    pub(crate) fn print_given(&mut self, site: &'a Site, failure: Failure) {
+        let Failure { rule, mark } = failure;
+        let ProfilePair { source, target } = self.refusal.sides;
+        let to = Named::whole(target, &site.target.at, mark.field).part(mark.comp, mark.sub);
+        match (rule, source_of(source, site, mark), &site.origin) {
+            (6 | 7, Some(from), _) => self.print_values(site, rule, to, from),
+            (10, Some(from), Origin::LookedUp(name, _)) => {
+                print_table(self.errors, from);
+                self.print_untaken(from, TakenBy::Rows(name));
+            }
+            (12, _, Origin::Text(text)) => self.print_constant(text, to),
+            (6 | 7 | 10 | 12, _, _) => {}
+            (_, from, _) => self.print_often(site, failure, to, from),
         }
     }
 }
