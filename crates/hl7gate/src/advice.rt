@@ -174,11 +174,11 @@ impl<'a, E: Write> Telling<'a, '_, E> {
         let Refusal { sides, refused, .. } = self.refusal;
         let sites = refused.used.sites.as_slice();
         let made = site_at(sites, line);
-        let is_told = self.print_missing(made, failures);
+        let is_reported = self.print_missing(made, failures);
         let Some(given) = failures.iter().find(|failure| !failure.mark.missing) else {
             return;
         };
-        if is_told {
+        if is_reported {
             say(self.errors, b"; ");
         }
         if given.rule == 9 {

@@ -9,9 +9,9 @@ use gw_plan::PlanFault;
 use gw_profile::ProfileFault;
 use std::alloc::{AllocError, Global};
 
-/// What a person is told of a fault: the line or segment name that goes with its number, and what was expected at the line, where the fault doesn't say it all.
+/// What is reported beside the number of a fault: the line or segment name that goes with its number, and what was expected at the line, where the fault doesn't say it all.
 #[derive(Drop)]
-pub(crate) enum Told {
+pub(crate) enum Detail {
     Whole,
     Name([u8; 3]),
     Line(u32),
@@ -77,12 +77,12 @@ fn of_line(
     }
 }
 
-/// What a person is told of a profile that is refused.
+/// What is reported of a profile that is refused.
 pub(crate) fn in_profile(
     alloc: Global,
     text: &[u8],
     fault: ProfileFault,
-) -> Result<Told, AllocError> {
+) -> Result<Detail, AllocError> {
     let (line, said) = match fault {
         ProfileFault::Memory => return Err(AllocError),
         ProfileFault::Syntax(line) => {
@@ -91,17 +91,17 @@ pub(crate) fn in_profile(
         }
         ProfileFault::Usage(line) => (line, of_usage(alloc, text, line)?),
         ProfileFault::Duplicate(line) => (line, of_duplicate(alloc, text, line)?),
-        ProfileFault::UnknownTable(line) => return Ok(Told::Line(line)),
-        ProfileFault::EmptyGroup(line) => return Ok(Told::Line(line)),
-        ProfileFault::TooDeep(line) => return Ok(Told::Line(line)),
-        ProfileFault::Ambiguous(name) => return Ok(Told::Name(name)),
-        ProfileFault::Header | ProfileFault::TooLarge => return Ok(Told::Whole),
+        ProfileFault::UnknownTable(line) => return Ok(Detail::Line(line)),
+        ProfileFault::EmptyGroup(line) => return Ok(Detail::Line(line)),
+        ProfileFault::TooDeep(line) => return Ok(Detail::Line(line)),
+        ProfileFault::Ambiguous(name) => return Ok(Detail::Name(name)),
+        ProfileFault::Header | ProfileFault::TooLarge => return Ok(Detail::Whole),
     };
-    Ok(Told::Expected(line, said))
+    Ok(Detail::Expected(line, said))
 }
 
-/// What a person is told of a map that is refused.
-pub(crate) fn in_map(alloc: Global, text: &[u8], fault: MapFault) -> Result<Told, AllocError> {
+/// What is reported of a map that is refused.
+pub(crate) fn in_map(alloc: Global, text: &[u8], fault: MapFault) -> Result<Detail, AllocError> {
     let (line, said) = match fault {
         MapFault::Memory => return Err(AllocError),
         MapFault::Syntax(line) => {
@@ -109,12 +109,12 @@ pub(crate) fn in_map(alloc: Global, text: &[u8], fault: MapFault) -> Result<Told
             (line, of_line(alloc, text, line, expected)?)
         }
         MapFault::Duplicate(line) => (line, of_duplicate(alloc, text, line)?),
-        MapFault::UnknownTable(line) => return Ok(Told::Line(line)),
-        MapFault::BadConstant(line) => return Ok(Told::Line(line)),
-        MapFault::TooDeep(line) => return Ok(Told::Line(line)),
-        MapFault::TooLarge => return Ok(Told::Whole),
+        MapFault::UnknownTable(line) => return Ok(Detail::Line(line)),
+        MapFault::BadConstant(line) => return Ok(Detail::Line(line)),
+        MapFault::TooDeep(line) => return Ok(Detail::Line(line)),
+        MapFault::TooLarge => return Ok(Detail::Whole),
     };
-    Ok(Told::Expected(line, said))
+    Ok(Detail::Expected(line, said))
 }
 
 /// The patterns of a plan's lines, each behind its keyword.
@@ -226,8 +226,8 @@ fn profile_fault(alloc: Global, text: &[u8], line: u32, number: u8) -> ProfileFa
 fn of_profile(alloc: Global, text: &[u8], line: u32, number: u8) -> Result<String, AllocError> {
     let fault = profile_fault(alloc, text, line, number);
     match in_profile(alloc, text, fault)? {
-        Told::Expected(_, said) => format!(in alloc; "profile refused {number}: {said}"),
-        Told::Name(name) => {
+        Detail::Expected(_, said) => format!(in alloc; "profile refused {number}: {said}"),
+        Detail::Name(name) => {
             format!(in alloc; "profile refused {number} {}: {fault}", name.escape_ascii())
         }
         _ => format!(in alloc; "profile refused {number}: {fault}"),
@@ -246,13 +246,13 @@ fn of_map(alloc: Global, text: &[u8], line: u32, number: u8) -> Result<String, A
         _ => MapFault::Memory,
     };
     match in_map(alloc, text, fault)? {
-        Told::Expected(_, said) => format!(in alloc; "map refused {number}: {said}"),
+        Detail::Expected(_, said) => format!(in alloc; "map refused {number}: {said}"),
         _ => format!(in alloc; "map refused {number}: {fault}"),
     }
 }
 
-/// What a person is told of a plan that is refused.
-pub(crate) fn in_plan(alloc: Global, text: &[u8], fault: PlanFault) -> Result<Told, AllocError> {
+/// What is reported of a plan that is refused.
+pub(crate) fn in_plan(alloc: Global, text: &[u8], fault: PlanFault) -> Result<Detail, AllocError> {
     let line = u32::try_from(fault.line()).unwrap_or(u32::MAX);
     let said = match fault {
         PlanFault::Memory => return Err(AllocError),
@@ -264,8 +264,8 @@ pub(crate) fn in_plan(alloc: Global, text: &[u8], fault: PlanFault) -> Result<To
             format!(in alloc; "refused K{rule}: {said}\n{}", advice(rule))?
         }
         PlanFault::Duplicate(_) => of_duplicate(alloc, text, line)?,
-        PlanFault::TooLarge => return Ok(Told::Whole),
-        _ => return Ok(Told::Line(line)),
+        PlanFault::TooLarge => return Ok(Detail::Whole),
+        _ => return Ok(Detail::Line(line)),
     };
-    Ok(Told::Expected(line, said))
+    Ok(Detail::Expected(line, said))
 }

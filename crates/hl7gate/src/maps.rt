@@ -32,8 +32,8 @@ pub(crate) fn parse_profile<'a>(
     match gw_profile::parse(alloc, text) {
         Ok(profile) => Ok(Arc::new(alloc, profile)?),
         Err(fault) => {
-            let told = in_profile(alloc, text, fault)?;
-            Err(refused(alloc, "profile", path, fault.number(), &fault, told)?)
+            let detail = in_profile(alloc, text, fault)?;
+            Err(refused(alloc, "profile", path, fault.number(), &fault, detail)?)
         }
     }
 }
@@ -102,8 +102,8 @@ pub(crate) fn parse_map<'a>(alloc: Global, written: &Written<'a>) -> Result<Map,
     match gw_maplang::parse(alloc, &written.text) {
         Ok(map) => Ok(map),
         Err(fault) => {
-            let told = in_map(alloc, &written.text, fault)?;
-            Err(refused(alloc, "map", written.path, fault.number(), &fault, told)?)
+            let detail = in_map(alloc, &written.text, fault)?;
+            Err(refused(alloc, "map", written.path, fault.number(), &fault, detail)?)
         }
     }
 }

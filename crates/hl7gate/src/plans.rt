@@ -25,8 +25,8 @@ pub(crate) fn refused<'a>(
     text: &[u8],
     fault: PlanFault,
 ) -> Result<Ended<'a>, AllocError> {
-    let told = in_plan(alloc, text, fault)?;
-    refusals::refused(alloc, "plan", path, fault.number(), &fault, told)
+    let detail = in_plan(alloc, text, fault)?;
+    refusals::refused(alloc, "plan", path, fault.number(), &fault, detail)
 }
 
 /// The plan of a file's text.
@@ -130,10 +130,10 @@ pub(crate) fn run<'a, R: Files + Clock + AllocGlobal, I: Read, O: Write, E: Writ
     let plan = read_plan(rt, words)?;
     let paths = paths_of(rt.alloc(), words.get_str("FOLDER").unwrap_or(""), &plan)?;
     let mut files = make_files(rt, &paths)?;
-    let told = Cell::new(0);
+    let answered = Cell::new(0);
     let shows = errors.is_terminal();
-    let mut reader = Reads::new(Watched::new(rt, input, errors, &told, shows));
-    let mut answers = Writes::new(Counted::new(output, &told));
+    let mut reader = Reads::new(Watched::new(rt, input, errors, &answered, shows));
+    let mut answers = Writes::new(Counted::new(output, &answered));
     match serve_once(
         rt.alloc(),
         plan,

@@ -1,6 +1,6 @@
 //! What is printed of a text or a message that was refused.
 use crate::ended::Ended;
-use crate::expected::Told;
+use crate::expected::Detail;
 use crate::report::{REFUSED, print_fault};
 use gw_er7::ReadFault;
 use gw_stream::RunFault;
@@ -18,18 +18,18 @@ pub(crate) fn refused<'a, F: Display>(
     path: &str,
     number: u8,
     fault: &F,
-    told: Told,
+    detail: Detail,
 ) -> Result<Ended<'a>, AllocError> {
-    let said = match told {
-        Told::Whole => format!(in alloc; "{kind} refused {number}\n{path}: {fault}")?,
-        Told::Name(name) => {
+    let said = match detail {
+        Detail::Whole => format!(in alloc; "{kind} refused {number}\n{path}: {fault}")?,
+        Detail::Name(name) => {
             let name = name.escape_ascii();
             format!(in alloc; "{kind} refused {number} {name}\n{path}: {fault}")?
         }
-        Told::Line(line) => {
+        Detail::Line(line) => {
             format!(in alloc; "{kind} refused {number} line {line}\n{path}: {fault}")?
         }
-        Told::Expected(line, said) => {
+        Detail::Expected(line, said) => {
             format!(in alloc; "{kind} refused {number} line {line}\n{path}:{line}: {said}")?
         }
     };

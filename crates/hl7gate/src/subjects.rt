@@ -21,7 +21,7 @@ pub(crate) enum TakenBy<'a> {
 /// What searches for a text that isn't taken found: by the source's table, the length up to which it is read, and what takes it.
 pub(crate) type Searches<'a> = BTreeMap<(&'a [u8], Option<u32>, TakenBy<'a>), Option<&'a [u8]>>;
 
-/// What is told of a refused map, and to whom.
+/// The refusal of a map, and where it is reported.
 #[derive(Drop)]
 pub(crate) struct Telling<'a, 'e, E> {
     pub(crate) refusal: Refusal<'a>,
