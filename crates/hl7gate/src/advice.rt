@@ -105,7 +105,7 @@ impl Refusal<'_> {
         Ok(alike)
     }
 
-    /// Reports the file with its line, what the failure speaks of, what to do, and what fails as well.
+    /// Reports the file with its line, what the failure speaks of, what to do, and what fails as well. It flushes the writer.
     pub(crate) fn tell<E: Write>(self, alloc: Global, errors: &mut E, alike: &Alike) {
         let Failure { rule, mark } = self.refused.least;
         let mut telling = Telling {
@@ -124,6 +124,7 @@ impl Refusal<'_> {
         }
         let _ = writeln!(telling.errors, "{}", advice(rule));
         telling.print_others(alike);
+        let _ = telling.errors.flush();
     }
 }
 

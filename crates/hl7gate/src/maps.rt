@@ -19,7 +19,7 @@ use gw_resolve::Failure;
 use gw_stream::RunFault;
 use gw_validate::{Tree, Verdict};
 use std::alloc::{AllocError, Global};
-use std::io::{Read, Write};
+use std::io::{BufWriter, Read, Write};
 use std::rt::Files;
 use std::sync::Arc;
 
@@ -157,6 +157,14 @@ fn write_rule<'a, O: Write>(
     Ok(())
 }
 
+// The same writer with a buffer: a refusal may be a megabyte in small pieces.
+fn buffered<'a, 'e, E: Write>(
+    alloc: Global,
+    errors: &'e mut E,
+) -> Result<BufWriter<&'e mut E>, Ended<'a>> {
+    BufWriter::new(alloc, errors).map_err(|_| Ended::Run(RunFault::Memory))
+}
+
 /// Prints the rule that refuses a map, and answers the status; what a person needs to mend it goes to `errors`.
 pub(crate) fn write_refusal<'a, O: Write, E: Write>(
     alloc: Global,
@@ -165,8 +173,9 @@ pub(crate) fn write_refusal<'a, O: Write, E: Write>(
     errors: &mut E,
 ) -> Result<u8, Ended<'a>> {
     let alike = refusal.alike(alloc)?;
+    let mut errors = buffered(alloc, errors)?;
     write_rule(alloc, refusal.refused.least, output)?;
-    refusal.tell(alloc, errors, &alike);
+    refusal.tell(alloc, &mut errors, &alike);
     Ok(REFUSED)
 }
 
@@ -287,10 +296,11 @@ pub(crate) fn print_refusal<'a, E: Write>(
     errors: &mut E,
 ) -> Result<u8, Ended<'a>> {
     let alike = refusal.alike(alloc)?;
+    let mut errors = buffered(alloc, errors)?;
     let Failure { rule, mark } = refusal.refused.least;
     let line = refusal.written.above.saturating_add(mark.line);
     let _ = writeln!(errors, "refused K{rule} line {line}");
-    refusal.tell(alloc, errors, &alike);
+    refusal.tell(alloc, &mut errors, &alike);
     Ok(REFUSED)
 }
 
