@@ -1,11 +1,11 @@
 //! How far an open block reaches into the bytes that come next.
-ghost use Rattle.std.specs.Prelude.{◌≡◌, ◌≤◌, ◌↔◌, ◌++◌, ◌∷◌, [], length, take, IsTrue, IfSome, IfNone};
-ghost use Rattle.memchr.specs.Find.{FindsNeedle};
+ghost use Rattle.std.specs.Prelude.{◌≡◌, ◌≤◌, ◌<◌, ◌+◌, ◌↔◌, ◌++◌, ◌∷◌, [], length, slice_index, take, true, IsTrue, IfSome, IfNone};
+ghost use Rattle.memchr.specs.Find.{FindsNeedle, IsFirst, Passes, is_byte};
 ghost use Rattle.gw_mllp.specs.Stream.{HasNoEnd, content_len};
 ghost use Rattle.gw_mllp.specs.Taken.{EndsAt, IsLone, Reaches, Straddles};
 
 use crate::bytes::{CR, FS, LIMIT, ends_in_fs};
-use memchr::{memchr, memmem};
+use memchr::memchr;
 
 /// How far an open block reaches into the bytes that come next.
 pub(crate) enum Reach<'a> {
@@ -17,12 +17,39 @@ pub(crate) enum Reach<'a> {
     Ends(&'a [u8], &'a [u8]),
 }
 
-/// The index of the first FS CR. Most short pieces have no CR, so that is tested first.
+/// The index of the first FS from this one on.
+fn next_fs(bytes: &[u8], from: usize) -> Option<usize>
+    requires { from ≤ length bytes.now }
+    ensures { IsFirst (Passes (is_byte 28) bytes.now) from (length bytes.now) result }
+{
+    match memchr(FS, &bytes[from..]) {
+        None => None,
+        Some(at) => Some(from + at),
+    }
+}
+
+/// Whether a CR stands at this index.
+fn is_cr_at(bytes: &[u8], at: usize) -> bool
+    ensures { IsTrue result ↔ ((at < length bytes.now) × (slice_index bytes.now at ≡ 13)) }
+{
+    if at >= bytes.len() {
+        return false;
+    }
+    bytes[at] == CR
+}
+
+/// The index of the first FS CR. Few contents have an FS elsewhere.
 pub(crate) fn find_end(bytes: &[u8]) -> Option<usize>
     ensures { FindsNeedle bytes.now (28 ∷ 13 ∷ []) 0 result }
 {
-    memchr(CR, bytes)?;
-    memmem::find(bytes, &[FS, CR])
+    let mut from = 0;
+    while let Some(at) = next_fs(bytes, from) {
+        if is_cr_at(bytes, at + 1) {
+            return Some(at);
+        }
+        from = at + 1;
+    }
+    None
 }
 
 /// Whether the content ends in FS, and these bytes begin with CR.
