@@ -1,5 +1,5 @@
 //! Messages in the making.
-ghost use Rattle.std.specs.Prelude.{◌≡◌};
+ghost use Rattle.std.specs.Prelude.{◌≡◌, ◌<◌};
 ghost use Rattle.gw_er7.specs.View.{lying, building, AreLying, AreBuilding};
 
 use crate::message::Message;
@@ -18,6 +18,16 @@ fn close(starts: &[SegmentHead], texts: &mut Texts)
     if let [.., last] = starts {
         texts.sort_from(last.first);
     }
+}
+
+/// How many segments a usual message has.
+const USUAL_SEGMENTS: usize = 8;
+
+/// For how many segments memory is taken at once, where there was memory for so many.
+fn more(capacity: usize) -> usize
+    ensures { 0 < result }
+{
+    if capacity == 0 { USUAL_SEGMENTS } else { 1 }
 }
 
 /// Makes a message, segment by segment and text by text.
@@ -64,7 +74,8 @@ impl Builder {
         ensures ok { OnOk result (self.new ≡ self.old ++ record { name = name; at = texts.empty } ∷ []) }
         ensures err { OnErr result (self.new ≡ self.old) }
     {
-        self.starts.reserve(1)?;
+        self.texts.take_room()?;
+        self.starts.reserve(more(self.starts.capacity()))?;
         close(&self.starts, &mut self.texts);
         let first = self.texts.len();
         let _ = self.starts.push(SegmentHead { name, first });
@@ -80,7 +91,7 @@ impl Builder {
         self.texts.put(place, text)
     }
 
-    /// The message of the segments, of which there has to be one. It takes no memory.
+    /// The message of the segments, of which there has to be one. It takes no memory, and `Message::fit` gives back what isn't needed.
     pub fn finish(self) -> Message
         requires { 0 < length self }
         ensures { result ≡ self }
@@ -88,8 +99,6 @@ impl Builder {
         let Builder { starts, texts } = self;
         let mut texts = texts;
         close(&starts, &mut texts);
-        let mut message = Message::of(starts, texts);
-        message.fit();
-        message
+        Message::of(starts, texts)
     }
 }

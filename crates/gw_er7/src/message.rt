@@ -51,7 +51,7 @@ impl Message {
         Message { starts, texts }
     }
 
-    /// Gives back the memory that the message doesn't need: a message that was read has some. It takes no memory.
+    /// Gives back the memory that the message doesn't need: one that was read or built has some. It takes no memory.
     pub fn fit(&mut self)
         ensures { self.new ≡ self.old }
     {

@@ -252,6 +252,10 @@ pub(crate) trait Store: Drop {
     fn with_room(alloc: Global, room: usize) -> Result<Self, AllocError>
         ensures { IfOk result (λ made. spans made ≡ []) };
 
+    /// Takes memory for `room` more spans of the narrowest width.
+    fn take_room(&mut self, room: usize) -> Result<(), AllocError>
+        ensures { spans self.new ≡ spans self.old };
+
     /// Puts a span behind the others.
     fn push(&mut self, span: TextSpan) -> Result<(), AllocError>
         ensures ok { OnOk result (spans self.new ≡ spans self.old ++ span ∷ []) }
@@ -293,6 +297,10 @@ impl Store for Vec<TextSpan> {
 
     fn with_room(alloc: Global, room: usize) -> Result<Vec<TextSpan>, AllocError> {
         Ok(Vec::with_capacity(alloc, room)?)
+    }
+
+    fn take_room(&mut self, room: usize) -> Result<(), AllocError> {
+        self.reserve(room)
     }
 
     fn push(&mut self, span: TextSpan) -> Result<(), AllocError> {
@@ -416,6 +424,10 @@ impl<N: Width, L: Store> Store for Spans<N, L> {
             narrow,
             others: L::new(alloc),
         })
+    }
+
+    fn take_room(&mut self, room: usize) -> Result<(), AllocError> {
+        self.narrow.reserve(room)
     }
 
     // Most spans are narrow, and there is room for them. For the others the span is put together anew: so its numbers stay in registers here.

@@ -7,6 +7,12 @@ use crate::values::Values;
 use std::alloc::{AllocError, Global};
 use std::marker::Model;
 
+/// How many texts a usual message has.
+const USUAL_TEXTS: usize = 64;
+
+/// How many bytes its texts take.
+const USUAL_BYTES: usize = 512;
+
 /// Texts at places, in the order in which they were put: spans, and the one buffer in which their texts lie.
 #[derive(Drop)]
 pub(crate) struct Texts {
@@ -41,6 +47,17 @@ impl Texts {
             spans: MessageSpans::new(alloc),
             bytes: Vec::new(alloc),
         }
+    }
+
+    /// Takes memory for the texts of a usual message, where none was taken yet.
+    pub(crate) fn take_room(&mut self) -> Result<(), AllocError>
+        ensures { self.new ≡ self.old }
+    {
+        if self.bytes.capacity() > 0 {
+            return Ok(());
+        }
+        self.spans.take_room(USUAL_TEXTS)?;
+        self.bytes.reserve(USUAL_BYTES)
     }
 
     /// The texts that these spans say of these bytes.
