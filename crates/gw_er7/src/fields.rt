@@ -263,7 +263,7 @@ fn push_value(
     Ok(())
 }
 
-/// Reads the value with which bytes begin, where it is the last or doesn't stand for itself. Gives the separator and the bytes behind it, where there is one.
+/// Reads the value with which bytes begin, where it doesn't stand for itself. Gives the separator and the bytes behind it, where there is one.
 #[cold]
 #[inline(never)]
 fn take_other<'a>(
@@ -277,16 +277,13 @@ fn take_other<'a>(
     requires inside { AreInside (bytes_of taken.old) taken.old.spans }
     requires lies { Lies taken.old.content.now at bytes.now }
     requires plain { plain ≡ position_or_len (λ b. is_mark classes.now b) bytes.now }
-    requires other { plain < length bytes.now → is_separator (separators classes.now) (get_or bytes.now plain 0) ≡ false }
+    requires short { plain < length bytes.now }
+    requires other { is_separator (separators classes.now) (get_or bytes.now plain 0) ≡ false }
     ensures inside { OnOk result (AreInside (bytes_of taken.new) taken.new.spans) }
     ensures content { OnOk result (taken.new.content.now ≡ taken.old.content.now) }
     ensures kept { OnOk result (Keeps taken.old taken.new) }
     ensures entries { IfOk result (TakesOne classes.now (numbers place) bytes.now (taken_by taken.old) (taken_by taken.new)) }
 {
-    if plain >= bytes.len() {
-        push_value(taken, classes, place, at, bytes, plain)?;
-        return Ok(None);
-    }
     let (raw, behind) = cut_at_separator(classes, bytes);
     push_value(taken, classes, place, at, raw, plain)?;
     Ok(behind)
@@ -320,7 +317,11 @@ fn take_values(
     let mut rest = bytes;
     loop {
         let plain = plain_in(classes, rest, is_long);
-        if plain < rest.len() && is_separator(classes, rest[plain]) {
+        if plain >= rest.len() {
+            push_value(taken, classes, place, here, rest, plain)?;
+            return Ok(());
+        }
+        if is_separator(classes, rest[plain]) {
             push_value(taken, classes, place, here, &rest[..plain], plain)?;
             place = next_place(classes, place, rest[plain]);
             here += plain + 1;

@@ -27,6 +27,14 @@ fn is_line_end(byte: u8) -> bool
     byte == b'\r' || byte == b'\n'
 }
 
+// As `is_line_end`, of one byte among many that are larger.
+#[inline(always)]
+fn ends_line(byte: u8) -> bool
+    ensures { result ≡ is_line_end byte }
+{
+    byte <= b'\r' && is_line_end(byte)
+}
+
 // Whether some byte ends a line. It looks at all of them, so that many are tested at a time.
 fn has_line_end(bytes: &[u8]) -> bool
     ensures { result ≡ list_any is_line_end bytes.now }
@@ -47,7 +55,7 @@ fn line_from(bytes: &[u8], from: usize) -> usize
 {
     let mut at = from;
     while at < bytes.len() {
-        if is_line_end(bytes[at]) {
+        if ends_line(bytes[at]) {
             return at;
         }
         at += 1;
@@ -56,6 +64,7 @@ fn line_from(bytes: &[u8], from: usize) -> usize
 }
 
 /// How many bytes stand before the first line end, or how many there are where there is none.
+#[inline(never)]
 fn line_len(bytes: &[u8]) -> usize
     ensures first { result ≡ position_or_len is_line_end bytes.now }
     ensures within { result ≤ length bytes.now }
@@ -71,6 +80,7 @@ fn line_len(bytes: &[u8]) -> usize
 }
 
 /// The bytes up to the first line end, and those behind it.
+#[inline(always)]
 fn cut_line(bytes: &[u8]) -> (&[u8], &[u8])
     ensures whole { (at : ℕ) → lines_from at bytes.now ≡ placed at (result.0.now ∷ slice_split is_line_end result.1.now) }
     ensures shorter { 0 < length bytes.now → length result.1.now < length bytes.now }
@@ -85,6 +95,7 @@ fn cut_line(bytes: &[u8]) -> (&[u8], &[u8])
 }
 
 /// The first line of bytes that begin at a place.
+#[inline(always)]
 pub(crate) fn next_line(at: usize, bytes: &[u8]) -> Option<NextLine<'_>>
     requires room { at < 2 ^ 64 }
     requires later { 0 < length bytes.now → at + length bytes.now < 2 ^ 64 }

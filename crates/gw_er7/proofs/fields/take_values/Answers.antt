@@ -5,7 +5,7 @@ use Rattle.gw_er7.specs.Entries.{Entry}
 use Rattle.gw_er7.specs.own.Separators.{held_in, taken_by, separators, IsNextValue, Lies}
 use Rattle.gw_er7.proofs.Lies.{lies_first, lies_behind}
 use Rattle.gw_er7.proofs.Lying.{keeps_on}
-use Rattle.gw_er7.proofs.Marks.{next_clear, next_plain}
+use Rattle.gw_er7.proofs.Marks.{all_clear, all_plain, next_clear, next_plain}
 use Rattle.gw_er7.proofs.Separated.{value_last, value_taken, later_less, rest_first}
 use Rattle.gw_er7.proofs.fields.take_values.Goals as goal
 
@@ -24,15 +24,26 @@ loop-rest-init c =
       sub = omega arith;
     }
 
-pub push_value-requires-clause-lies : goal.push_value-requires-clause-lies
-push_value-requires-clause-lies c =
+pub push_value-requires-clause-plain : goal.push_value-requires-clause-plain
+push_value-requires-clause-plain c = all_plain c.args.classes.now c.loop-rest.rest.now c.plain_in-plain.result c.plain_in-plain.ensures (omega arith)
+
+pub returns-then-plain-rest-clause-entries : goal.returns-then-plain-rest-clause-entries
+returns-then-plain-rest-clause-entries c =
+    let d = c.args.classes.now in
+    let place = c.loop-rest.place in
+    let rest = c.loop-rest.rest.now in
+    let last = all_clear d rest c.plain_in-plain.result c.plain_in-plain.ensures (omega arith) in
+    value_last d place.field place.rep place.comp place.sub rest rest (taken_by c.loop-rest.taken) (taken_by c.push_value.new.taken) _ last c.loop-rest.invariant.read c.in_ok-push_value.ensures.entries
+
+pub push_value-requires-then-is_separator-clause-lies : goal.push_value-requires-then-is_separator-clause-lies
+push_value-requires-then-is_separator-clause-lies c =
     let rest = c.loop-rest.rest.now in
     let k = c.plain_in-plain.result in
     subst (λ (bytes : List ℕ). Lies bytes c.loop-rest.here (take k rest)) (sym c.loop-rest.invariant.content)
     (lies_first _ c.loop-rest.here rest (take k rest) (drop k rest) (sym (take-append-drop k rest)) c.loop-rest.invariant.lies)
 
-pub push_value-requires-clause-plain : goal.push_value-requires-clause-plain
-push_value-requires-clause-plain c = next_plain c.args.classes.now c.loop-rest.rest.now c.plain_in-plain.result c.plain_in-plain.ensures (omega arith)
+pub push_value-requires-then-is_separator-clause-plain : goal.push_value-requires-then-is_separator-clause-plain
+push_value-requires-then-is_separator-clause-plain c = next_plain c.args.classes.now c.loop-rest.rest.now c.plain_in-plain.result c.plain_in-plain.ensures (omega arith)
 
 pub loop-rest-preserved-then-is_separator : goal.loop-rest-preserved-then-is_separator
 loop-rest-preserved-then-is_separator c =
@@ -46,11 +57,11 @@ loop-rest-preserved-then-is_separator c =
     let short = later_less _ _ _ _ _ next in
     let long : length (take k bytes) ≡ k = omega (arith, length-take k bytes) in
     record {
-      inside = c.in_ok-push_value.ensures.inside;
-      kept = keeps_on (held_in c.args.taken.now) (held_in c.loop-rest.taken) (held_in c.push_value.new.taken) c.loop-rest.invariant.kept c.in_ok-push_value.ensures.kept;
+      inside = c.in_ok-push_value-2.ensures.inside;
+      kept = keeps_on (held_in c.args.taken.now) (held_in c.loop-rest.taken) (held_in c.push_value-then-is_separator.new.taken) c.loop-rest.invariant.kept c.in_ok-push_value-2.ensures.kept;
       read = value_taken d place.field place.rep place.comp place.sub (numbers c.next_place-place.result) bytes (take k bytes) (get_or bytes k 0) behind
-          (taken_by c.loop-rest.taken) (taken_by c.push_value.new.taken) _ next c.next_place-place.ensures.next c.loop-rest.invariant.read c.in_ok-push_value.ensures.entries;
-      content = c.in_ok-push_value.ensures.content ∙ c.loop-rest.invariant.content;
+          (taken_by c.loop-rest.taken) (taken_by c.push_value-then-is_separator.new.taken) _ next c.next_place-place.ensures.next c.loop-rest.invariant.read c.in_ok-push_value-2.ensures.entries;
+      content = c.in_ok-push_value-2.ensures.content ∙ c.loop-rest.invariant.content;
       lies = subst (λ (n : ℕ). Lies c.args.taken.now.content.now (c.loop-rest.here + (n + 1)) behind) long
           (lies_behind c.args.taken.now.content.now c.loop-rest.here bytes (take k bytes) (get_or bytes k 0) behind next.whole c.loop-rest.invariant.lies);
       field = omega (arith, short, c.next_place-place.ensures.field, c.loop-rest.invariant.field);
