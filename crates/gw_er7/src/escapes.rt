@@ -1,5 +1,5 @@
 //! The canonical text of a raw value (HL7 v2.5.1 chapter 2, 2.7 "Use of escape sequences in text fields").
-ghost use Rattle.std.specs.Prelude.{◌≡◌, ◌≤◌, ◌+◌, ◌++◌, ◌==◌, ◌||◌, length, take, drop, position, IfOk, IfNone, IfSome, OnOk, false, not};
+ghost use Rattle.std.specs.Prelude.{◌≡◌, ◌≤◌, ◌+◌, ◌++◌, ◌∷◌, [], ◌==◌, ◌||◌, length, take, drop, position, IfOk, IfNone, IfSome, MatchOption, OnOk, false, not};
 ghost use Rattle.std.specs.List.{list_all, position_or_len};
 ghost use Rattle.memchr.specs.Find.{IsFirstByte, is_byte};
 ghost use Rattle.gw_er7.specs.Text.{canon, escaped, plainly, meaning, delimiter_of, is_body, is_special, opens, IsBodyAt};
@@ -62,16 +62,26 @@ fn push_escaped(text: &mut Vec<u8>, body: &[u8]) -> Result<(), AllocError>
     Ok(())
 }
 
+// The letter of the sequence in which canonical text has the byte, where it doesn't stand there as it is.
+fn letter_of(byte: u8) -> Option<u8>
+    ensures { MatchOption result (plainly byte ≡ byte ∷ []) (λ letter. plainly byte ≡ escaped (letter ∷ [])) }
+{
+    match byte {
+        b'|' => Some(b'F'),
+        b'^' => Some(b'S'),
+        b'&' => Some(b'T'),
+        b'~' => Some(b'R'),
+        b'\\' => Some(b'E'),
+        _ => None,
+    }
+}
+
 fn push_plainly(text: &mut Vec<u8>, byte: u8) -> Result<(), AllocError>
     ensures { OnOk result (text.new.items ≡ text.old.items ++ plainly byte) }
 {
-    match byte {
-        b'|' => text.extend_from_slice(b"\\F\\"),
-        b'^' => text.extend_from_slice(b"\\S\\"),
-        b'&' => text.extend_from_slice(b"\\T\\"),
-        b'~' => text.extend_from_slice(b"\\R\\"),
-        b'\\' => text.extend_from_slice(b"\\E\\"),
-        _ => {
+    match letter_of(byte) {
+        Some(letter) => text.extend_from_slice(&[b'\\', letter, b'\\']),
+        None => {
             text.push(byte)?;
             Ok(())
         }
