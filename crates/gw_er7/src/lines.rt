@@ -63,6 +63,20 @@ fn line_from(bytes: &[u8], from: usize) -> usize
     at
 }
 
+// The same where a line end stands behind these.
+fn line_within(bytes: &[u8], from: usize) -> usize
+    requires before { FailsTo is_line_end bytes.now from }
+    requires there { position_or_len is_line_end bytes.now < length bytes.now }
+    ensures first { result ≡ position_or_len is_line_end bytes.now }
+    ensures within { result ≤ length bytes.now }
+{
+    let mut at = from;
+    while !ends_line(bytes[at]) {
+        at += 1;
+    }
+    at
+}
+
 /// How many bytes stand before the first line end, or how many there are where there is none.
 #[inline(never)]
 fn line_len(bytes: &[u8]) -> usize
@@ -72,7 +86,7 @@ fn line_len(bytes: &[u8]) -> usize
     let mut at = 0;
     while bytes.len() - at >= CHUNK {
         if has_line_end(&bytes[at..at + CHUNK]) {
-            return line_from(bytes, at);
+            return line_within(bytes, at);
         }
         at += CHUNK;
     }
