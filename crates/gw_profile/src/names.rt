@@ -5,12 +5,12 @@ ghost use Rattle.gw_profile.specs.Seen.{forest, node_forest};
 ghost use Rattle.gw_profile.specs.Shapes.{nothing};
 
 use crate::node::Node;
+use indexmap::IndexSet;
 use std::alloc::{AllocError, Global};
-use std::collections::HashSet;
 
 // Adds the names of the segments at and below a node.
 #[cycle(add)]
-fn add_node(names: &mut HashSet<[u8; 3]>, node: &Node) -> Result<(), AllocError>
+fn add_node(names: &mut IndexSet<[u8; 3]>, node: &Node) -> Result<(), AllocError>
     ensures { OnOk result (Adds names.old names.new (node_forest node.now nothing)) }
 {
     match node {
@@ -26,7 +26,7 @@ fn add_node(names: &mut HashSet<[u8; 3]>, node: &Node) -> Result<(), AllocError>
 }
 
 #[cycle(add)]
-fn add_names(names: &mut HashSet<[u8; 3]>, nodes: &[Node]) -> Result<(), AllocError>
+fn add_names(names: &mut IndexSet<[u8; 3]>, nodes: &[Node]) -> Result<(), AllocError>
     ensures { OnOk result (Adds names.old names.new (forest nodes.now)) }
 {
     for node in nodes {
@@ -36,10 +36,10 @@ fn add_names(names: &mut HashSet<[u8; 3]>, nodes: &[Node]) -> Result<(), AllocEr
 }
 
 /// The names of the segments at and below these nodes.
-pub(crate) fn names_of(alloc: Global, nodes: &[Node]) -> Result<HashSet<[u8; 3]>, AllocError>
+pub(crate) fn names_of(alloc: Global, nodes: &[Node]) -> Result<IndexSet<[u8; 3]>, AllocError>
     ensures { IfOk result (λ names. Holds names (forest nodes.now)) }
 {
-    let mut names = HashSet::new(alloc);
+    let mut names = IndexSet::new(alloc);
     add_names(&mut names, nodes)?;
     Ok(names)
 }

@@ -1,5 +1,7 @@
-//! Where a table, and a value of a table, is looked for first: most names differ in their last bytes, and most values in their ends.
-ghost use Rattle.std.specs.Prelude.{◌≡◌, ◌<◌, map, true, Some, IfSome};
+//! Where a table, a value of a table and a segment's name are looked for first: most names of tables differ in their last bytes, and
+//! most values in their ends.
+ghost use Rattle.std.specs.Prelude.{◌≡◌, ◌<◌, map, true, Some, IfSome, bytes_eq};
+ghost use Rattle.std.specs.List.{list_any};
 ghost use Rattle.gw_profile.specs.Fault.{is_among};
 ghost use Rattle.gw_profile.specs.Seen.{table};
 ghost use Rattle.gw_profile.specs.Value.{table_of};
@@ -100,5 +102,45 @@ impl NearValues {
             return false;
         }
         same_bytes(&values[number], value)
+    }
+}
+
+/// For the bytes of a segment's name, the number of a name that may be the same. A number that is wrong costs time alone.
+#[derive(Clone, Copy)]
+pub(crate) struct NearNames {
+    numbers: [u8; 256],
+}
+
+// The three bytes of a segment's name, in one. The usual names of HL7 differ in it.
+#[inline(always)]
+fn mixed(name: [u8; 3]) -> u8 {
+    let first = name[0].wrapping_mul(91);
+    let second = name[1].wrapping_mul(82);
+    name[2].wrapping_add(second).wrapping_add(first)
+}
+
+impl NearNames {
+    /// Where these names lie.
+    pub(crate) fn of(names: &[[u8; 3]]) -> NearNames {
+        let mut numbers = [0u8; 256];
+        for number in 0..256usize {
+            if number >= names.len() {
+                return NearNames { numbers };
+            }
+            numbers[mixed(names[number]) as usize] = number as u8;
+        }
+        NearNames { numbers }
+    }
+
+    /// Whether this is the name that lies where it is looked for first.
+    #[inline(always)]
+    pub(crate) fn has(&self, names: &[[u8; 3]], name: [u8; 3]) -> bool
+        ensures { result ≡ true → list_any (bytes_eq name) names.now ≡ true }
+    {
+        let number = self.numbers[mixed(name) as usize] as usize;
+        if number >= names.len() {
+            return false;
+        }
+        name == names[number]
     }
 }

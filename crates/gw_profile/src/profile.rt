@@ -7,14 +7,13 @@ ghost use Rattle.gw_profile.specs.Value.{table_of};
 ghost use Rattle.gw_profile.specs.WellFormed.{WellFormed};
 
 use crate::names::names_of;
-use crate::near::NearTables;
+use crate::near::{NearNames, NearTables};
 use crate::node::Node;
 use crate::same::{same_count, same_nodes, same_tables};
 use crate::shape::Count;
 use crate::table::Table;
-use indexmap::IndexMap;
+use indexmap::{IndexMap, IndexSet};
 use std::alloc::{AllocError, Global};
-use std::collections::HashSet;
 use std::marker::Model;
 
 /// A message profile: what its lengths count, its tables, its tree of segments and groups, and the names of its segments.
@@ -25,7 +24,8 @@ pub struct Profile {
     tables: IndexMap<Vec<u8>, Table>,
     near: NearTables,
     nodes: Vec<Node>,
-    names: HashSet<[u8; 3]>,
+    names: IndexSet<[u8; 3]>,
+    near_names: NearNames,
 }
 
 // Written out, so that no crate above proves again how its fields are dropped.
@@ -38,6 +38,7 @@ impl Drop for Profile {
             near: _,
             nodes: _,
             names: _,
+            near_names: _,
         } = self;
     }
 }
@@ -73,6 +74,7 @@ impl Profile {
     {
         let names = names_of(alloc, &nodes)?;
         let near = NearTables::of(&tables);
+        let near_names = NearNames::of(names.as_slice());
         Ok(Profile {
             name,
             count,
@@ -80,6 +82,7 @@ impl Profile {
             near,
             nodes,
             names,
+            near_names,
         })
     }
 
@@ -105,8 +108,22 @@ impl Profile {
         self.nodes.as_slice()
     }
 
-    /// Whether a segment of this name is anywhere in the profile. It takes no memory, and looks the name up by its hash.
+    /// Whether a segment of this name is anywhere in the profile. It takes no memory. It looks where the name most likely lies, then by its
+    /// hash.
+    #[inline(always)]
     pub fn knows(&self, name: [u8; 3]) -> bool
+        ensures { result ≡ stands (forest self.now.nodes) name }
+    {
+        if self.near_names.has(self.names.as_slice(), name) {
+            return true;
+        }
+        self.knows_by_hash(name)
+    }
+
+    // Seldom reached: by a name that isn't in the profile, or that another one hides.
+    #[cold]
+    #[inline(never)]
+    fn knows_by_hash(&self, name: [u8; 3]) -> bool
         ensures { result ≡ stands (forest self.now.nodes) name }
     {
         self.names.contains(&name)
