@@ -20,8 +20,7 @@ use Rattle.gw_resolve.proofs.resolved.SegmentItem.TheSendSync as item
 use Rattle.gw_resolve.proofs.resolved.FieldCondition.TheSendSync as asked
 use Rattle.gw_resolve.specs.contracts.resolved.Item as Item
 use Rattle.gw_check.specs.contracts.checked.CheckedMap as CheckedMap
-use Rattle.gw_validate.proofs.occurrences.Occurrences.TheLaws.TheKnot as occurrences
-use Rattle.gw_validate.specs.contracts.occurrences.Found as Found
+use Rattle.gw_validate.proofs.Crossing.{Found-send, Found-sync}
 use Rattle.gw_validate.specs.contracts.tree.Tree as Tree
 use Rattle.gw_plan.proofs.index.Index.TheSendSync as index
 use Rattle.gw_plan.proofs.plan.Receiver.TheSendSync as receiver
@@ -71,12 +70,6 @@ CheckedMap-sync : IsSync (CheckedMap.the_field).row
 CheckedMap-sync = search (Profile-send, Profile-sync, Map-sync, Item-sync, crosses, sendable) depth 60 fits 50000
 
 -- ---- messages and plans
-
-Found-send : IsSend (Found.the_field).row
-Found-send = occurrences.send-Found (search (crosses, sendable) depth 20) (λ h s. Vec-send h s) (search (crosses, sendable) depth 20)
-
-Found-sync : IsSync (Found.the_field).row
-Found-sync = occurrences.sync-Found (search (crosses, sendable) depth 20) (λ h s. Vec-sync h s) (search (crosses, sendable) depth 20)
 
 Tree-send : IsSend (Tree.the_field).row
 Tree-send = search (Profile-send, Profile-sync, message.the_send, Found-send, crosses, sendable) depth 60 fits 50000

@@ -14,8 +14,9 @@ use Rattle.gw_validate.specs.own.Residual.{less, append, has_room, seg, grp}
 use Rattle.gw_validate.specs.own.Tests.{can_begin}
 use Rattle.gw_validate.specs.Trees.{Tree, leaf, segments, groups, Trees, no_trees, trees, count_of, IsTree, AreTrees}
 use Rattle.gw_validate.specs.declared.occurrences.Occurrences.{Occurrences}
+use Rattle.gw_validate.specs.declared.occurrences.Child.{Child}
 use Rattle.gw_validate.specs.declared.occurrences.Found.{Found}
-use Rattle.gw_validate.specs.own.Occurring.{kept, numbers_of, found_of, tree_from, tree_of, trees_of, AreOrdered, IsOrdered, IsUpTo, Rising}
+use Rattle.gw_validate.specs.own.Occurring.{children_of, kept, numbers_of, found_of, tree_from, tree_of, trees_of, AreOrdered, IsOrdered, IsUpTo, Rising}
 use Rattle.gw_validate.proofs.Rows.{one_tree, one_same, nodes_same, nodes_push, one_ordered, same_ordered, push_ordered}
 use Rattle.gw_validate.proofs.Walking.{forest_group, value_of}
 use Rattle.gw_validate.proofs.Joined.{append_nothing}
@@ -313,13 +314,9 @@ module _ (named : ℕ → Name) (listed : List ℕ) (all : List Node) (list : Li
         (go.up_to.rising, subst (λ l. AreOrdered (kept x) 0 (forest l)) whole go.ordered),
       )
 
-  pub nodes_begin : (x : Found) → x.nodes.items ≡ [] → x.each.items ≡ [] → Going named listed all 0 list x list
-  nodes_begin x bare empty = record {
-    up_to = record {
-      same = ap length empty ∙ sym (ap length bare);
-      rising = subst Rising (sym bare) tt;
-      below = subst (AllByRecursion (λ k. k < 0)) (sym bare) tt;
-    };
+  pub nodes_begin : (x : Found) → children_of x ≡ [] → Going named listed all 0 list x list
+  nodes_begin x bare = record {
+    up_to = record { rising = subst Rising (sym bare) tt; below = subst (AllByRecursion (λ (c : Child). c.node < 0)) (sym bare) tt };
     ordered = tt;
     built = nodes_init named all list;
   }
@@ -405,18 +402,17 @@ module _ (named : ℕ → Name) (listed list rest : List ℕ) (one : Option Occu
   pub segment_ordered : (s : declared_segment.SegNode) → node ≡ Seg s → AreOrdered (λ _. one) 0 (node_forest node nothing)
   segment_ordered s is = subst (λ n. AreOrdered (λ _. one) 0 (node_forest n nothing)) (sym is) tt
 
-  module _ (s : declared_group.GroupNode) (children : List Node) (xs : List Found) (is : node ≡ Group s) (items : children ≡ s.nodes.items) (found : found_of one ≡ xs) where
+  module _ (s : declared_group.GroupNode) (children : List Node) (is : node ≡ Group s) (items : children ≡ s.nodes.items) where
     as_group : node_forest node nothing ≡ group (value_of s) (forest children) nothing
     as_group = ap (λ n. node_forest n nothing) is ∙ forest_group s nothing ∙ ap (λ l. group (value_of s) (forest l) nothing) (sym items)
 
-    pub node_of_group : BuildsGroups named s.card.min s.card.max (forest children) list (trees_of listed (forest children) xs) rest → Builds named (node_forest node nothing) list (one_tree listed (λ _. one) 0 node) rest
+    pub node_of_group : BuildsGroups named s.card.min s.card.max (forest children) list (trees_of listed (forest children) (found_of one)) rest → Builds named (node_forest node nothing) list (one_tree listed (λ _. one) 0 node) rest
     node_of_group h =
         subst (λ f. Builds named f list (tree_from listed (λ _. one) 0 f) rest) (sym as_group)
-        (subst (λ ys. Builds named (group (value_of s) (forest children) nothing) list (groups (trees_of listed (forest children) ys) leaf) rest) (sym found)
-        (group_nodes named (value_of s) s.card.min s.card.max (forest children) list (trees_of listed (forest children) xs) rest h))
+        (group_nodes named (value_of s) s.card.min s.card.max (forest children) list (trees_of listed (forest children) (found_of one)) rest h)
 
-    pub group_ordered : AllByRecursion (IsOrdered (forest children)) xs → AreOrdered (λ _. one) 0 (node_forest node nothing)
-    group_ordered a = subst (AreOrdered (λ _. one) 0) (sym as_group) (subst (AllByRecursion (IsOrdered (forest children))) (sym found) a, tt)
+    pub group_ordered : AllByRecursion (IsOrdered (forest children)) (found_of one) → AreOrdered (λ _. one) 0 (node_forest node nothing)
+    group_ordered a = subst (AreOrdered (λ _. one) 0) (sym as_group) (a, tt)
 
 -- where the whole list fits, the tree is the cut of all of it
 pub whole_built : (named : ℕ → Name) (f : Forest) (list : List ℕ) (t : Tree) (rest : List ℕ) → Determined f NoName → Fits f (map named list) → Builds named f list t rest → IsTree named t f list

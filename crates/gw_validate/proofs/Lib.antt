@@ -32,3 +32,4 @@ pub mod Walks
 pub mod Gathering
 pub mod Every
 pub mod Collecting
+pub mod Crossing

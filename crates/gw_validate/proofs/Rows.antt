@@ -1,20 +1,22 @@
 -- What is kept of the nodes that occur, as a tree.
-use Rattle.std.proofs.Common.{◌≡◌, ◌≢◌, ◌==◌, ℕ, zero, suc, ◌+◌, ◌<◌, ◌≤◌, true, false, if◌then◌else◌, List, [], ◌∷◌, ◌++◌, Option, Some, None, Ok, Err, refl, sym, ap, ◌∙◌, subst, arith, length, length-append, get_or, slice_get, take, drop, Global, ⊎_elim}
+use Rattle.std.proofs.Common.{◌≡◌, ◌≢◌, ◌==◌, ℕ, zero, suc, ◌+◌, ◌<◌, ◌≤◌, true, false, if◌then◌else◌, List, [], ◌∷◌, ◌++◌, Option, Some, None, Ok, Err, refl, sym, ap, ◌∙◌, subst, arith, length, get_or, take, drop, Global, ⊎_elim}
 use Rattle.std.proofs.lemmas.Grind.{common_steps}
 use Rattle.std.proofs.lemmas.Bool.{cases_lt}
-use Rattle.std.proofs.lemmas.List.Sorted.{searched}
+use Rattle.std.proofs.lemmas.Bool.Decides.{nat_tests}
+use Rattle.std.proofs.lemmas.Cmp.{ranked}
 use Rattle.std.specs.List.{AllByRecursion}
 use Rattle.std.specs.List.Sorted.{IsBinarySearchResult}
-use Rattle.std.specs.Ordering.{nat_cmp}
+use Rattle.std.specs.Ordering.{nat_cmp, ordering_index}
 use Rattle.std.specs.declared.vec.Vec.{Vec}
 use Rattle.gw_profile.specs.declared.node.Node.{Node, Seg, Group'}
 use Rattle.gw_profile.specs.Shapes.{Forest, nothing, segment, group}
 use Rattle.gw_profile.specs.Seen.{forest, node_forest, row_forest}
-use Rattle.gw_validate.specs.declared.occurrences.Occurrences.{Occurrences, Segments, Groups, Groups', items_hidden-the_row-Found-1}
+use Rattle.gw_validate.specs.declared.occurrences.Occurrences.{Occurrences, Segments, OneGroup, Groups, Groups', items_hidden-the_row-Found-0}
+use Rattle.gw_validate.specs.declared.occurrences.Child.{Child}
 use Rattle.gw_validate.specs.declared.occurrences.Found.{Found}
 use Rattle.gw_validate.specs.Trees.{Tree, leaf, segments, groups, no_trees, trees, flatten, flatten_all}
 use Rattle.gw_validate.specs.own.Joining.{append_tree, append_trees}
-use Rattle.gw_validate.specs.own.Occurring.{Rising, beside, kept, numbers_of, found_of, each_tree, tree_from, AreOrdered, IsOrdered, IsUpTo}
+use Rattle.gw_validate.specs.own.Occurring.{Rising, numbered, children_of, kept, numbers_of, found_of, each_tree, tree_from, AreOrdered, IsOrdered, IsUpTo}
 
 -- ---- lists
 
@@ -37,7 +39,7 @@ all_behind P zero xs a = a
 all_behind P (suc n) [] a = tt
 all_behind P (suc n) (x ∷ xs) a = all_behind P n xs a.1
 
--- ---- numbers that rise
+-- ---- children whose numbers rise
 
 same_number : (n k : ℕ) → n ≡ k → (n == k) ≡ true
 same_number n k h = grind (arith, common_steps)
@@ -45,115 +47,111 @@ same_number n k h = grind (arith, common_steps)
 other_number : (n k : ℕ) → n ≢ k → (n == k) ≡ false
 other_number n k h = grind (arith, common_steps)
 
-rising_apart : (ns : List ℕ) (j i : ℕ) → Rising ns → j < i → i < length ns → get_or ns j 0 < get_or ns i 0
-rising_apart [] j i r below lt = absurd (omega (arith, lt))
-rising_apart (n ∷ ns) zero zero r below lt = absurd (omega (arith, below))
-rising_apart (n ∷ ns) zero (suc i) r below lt = above ns i r.0 (omega (arith, lt))
-  where
-    above : (ms : List ℕ) (i : ℕ) → AllByRecursion (λ m. n < m) ms → i < length ms → n < get_or ms i 0
-    above [] i a lt = absurd (omega (arith, lt))
-    above (m ∷ ms) zero a lt = a.0
-    above (m ∷ ms) (suc i) a lt = above ms i a.1 (omega (arith, lt))
-rising_apart (n ∷ ns) (suc j) zero r below lt = absurd (omega (arith, below))
-rising_apart (n ∷ ns) (suc j) (suc i) r below lt = rising_apart ns j i r.1 (omega (arith, below)) (omega (arith, lt))
+module _ (d : Child) where
+  rising_apart : (cs : List Child) (j i : ℕ) → Rising cs → j < i → i < length cs → (get_or cs j d).node < (get_or cs i d).node
+  rising_apart [] j i r below lt = absurd (omega (arith, lt))
+  rising_apart (c ∷ cs) zero zero r below lt = absurd (omega (arith, below))
+  rising_apart (c ∷ cs) zero (suc i) r below lt = above cs i r.0 (omega (arith, lt))
+    where
+      above : (ms : List Child) (i : ℕ) → AllByRecursion (λ m. c.node < m.node) ms → i < length ms → c.node < (get_or ms i d).node
+      above [] i a lt = absurd (omega (arith, lt))
+      above (m ∷ ms) zero a lt = a.0
+      above (m ∷ ms) (suc i) a lt = above ms i a.1 (omega (arith, lt))
+  rising_apart (c ∷ cs) (suc j) zero r below lt = absurd (omega (arith, below))
+  rising_apart (c ∷ cs) (suc j) (suc i) r below lt = rising_apart cs j i r.1 (omega (arith, below)) (omega (arith, lt))
 
-rising_weakly : (ns : List ℕ) → Rising ns → (i j : ℕ) → i ≤ j → j < length ns → get_or ns i 0 ≤ get_or ns j 0
-rising_weakly ns r i j le lt =
-    ⊎_elim
-    (λ below. let less = rising_apart ns i j r below lt in omega (arith, less))
-    (λ past. let same : i ≡ j = omega (arith, le, past) in let equal = ap (λ k. get_or ns k 0) same in omega (arith, equal))
-    (cases_lt i j)
+  rising_weakly : (cs : List Child) → Rising cs → (i j : ℕ) → i ≤ j → j < length cs → (get_or cs i d).node ≤ (get_or cs j d).node
+  rising_weakly cs r i j le lt =
+      ⊎_elim
+      (λ below. let less = rising_apart cs i j r below lt in omega (arith, less))
+      (λ past. let same : i ≡ j = omega (arith, le, past) in let equal = ap (λ k. (get_or cs k d).node) same in omega (arith, equal))
+      (cases_lt i j)
 
-pub rising_push : (ns : List ℕ) (k : ℕ) → Rising ns → AllByRecursion (λ n. n < k) ns → Rising (ns ++ k ∷ [])
-rising_push [] k r a = (tt, tt)
-rising_push (n ∷ ns) k r a = (all_two (λ m. n < m) ns (k ∷ []) r.0 (a.0, tt), rising_push ns k r.1 a.1)
+rising_push : (cs : List Child) (c : Child) → Rising cs → AllByRecursion (λ m. m.node < c.node) cs → Rising (cs ++ c ∷ [])
+rising_push [] c r a = (tt, tt)
+rising_push (m ∷ ms) c r a = (all_two (λ n. m.node < n.node) ms (c ∷ []) r.0 (a.0, tt), rising_push ms c r.1 a.1)
 
-pub all_below : (ns : List ℕ) (k n : ℕ) → k ≤ n → AllByRecursion (λ m. m < k) ns → AllByRecursion (λ m. m < n) ns
+all_below : (cs : List Child) (k n : ℕ) → k ≤ n → AllByRecursion (λ c. c.node < k) cs → AllByRecursion (λ c. c.node < n) cs
 all_below [] k n le a = tt
-all_below (m ∷ ns) k n le a = (omega (arith, le, a.0), all_below ns k n le a.1)
+all_below (c ∷ cs) k n le a = (omega (arith, le, a.0), all_below cs k n le a.1)
 
--- ---- what stands beside a number
+-- ---- the occurrences of the child of a number
 
 module _ (k : ℕ) where
-  beside_found : (ns : List ℕ) (each : List Occurrences) (i : ℕ) → ((j : ℕ) → j < i → get_or ns j 0 ≢ k) → i < length ns → get_or ns i 0 ≡ k → beside ns each k ≡ slice_get each i
-  beside_found [] each i before lt at = absurd (omega (arith, lt))
-  beside_found (n ∷ ns) [] i before lt at = refl
-  beside_found (n ∷ ns) (o ∷ each) zero before lt at = ap (λ b. if b then Some o else beside ns each k) (same_number n k at)
-  beside_found (n ∷ ns) (o ∷ each) (suc i) before lt at =
-      ap (λ b. if b then Some o else beside ns each k) (other_number n k (before 0 (omega arith)))
-      ∙ beside_found ns each i (λ j below. before (suc j) (omega (arith, below))) (omega (arith, lt)) at
+  pub numbered_place : (cs : List Child) (i : ℕ) (c : Child) → Rising cs → i < length cs → c ≡ get_or cs i c → c.node ≡ k → Some c.occurrences ≡ numbered cs k
+  numbered_place [] i c r lt is here = absurd (omega (arith, lt))
+  numbered_place (m ∷ ms) zero c r lt is here =
+      ap (λ (one : Child). Some one.occurrences) is
+      ∙ sym (ap (λ b. if b then Some m.occurrences else numbered ms k) (same_number m.node k (ap (λ (one : Child). one.node) (sym is) ∙ here)))
+  numbered_place (m ∷ ms) (suc i) c r lt is here =
+      let above = all_at (λ n. m.node < n.node) ms i c r.0 (omega (arith, lt)) is in
+      numbered_place ms i c r.1 (omega (arith, lt)) is here
+      ∙ sym (ap (λ b. if b then Some m.occurrences else numbered ms k) (other_number m.node k (λ same. omega (arith, above, same, here))))
 
-  beside_none : (ns : List ℕ) (each : List Occurrences) → ((j : ℕ) → j < length ns → get_or ns j 0 ≢ k) → beside ns each k ≡ None
-  beside_none [] each none = refl
-  beside_none (n ∷ ns) [] none = refl
-  beside_none (n ∷ ns) (o ∷ each) none =
-      ap (λ b. if b then Some o else beside ns each k) (other_number n k (none 0 (omega arith)))
-      ∙ beside_none ns each (λ j lt. none (suc j) (omega (arith, lt)))
+  numbered_none : (cs : List Child) → ((j : ℕ) (d : Child) → j < length cs → (get_or cs j d).node ≢ k) → numbered cs k ≡ None
+  numbered_none [] none = refl
+  numbered_none (m ∷ ms) none =
+      ap (λ b. if b then Some m.occurrences else numbered ms k) (other_number m.node k (none 0 m (omega arith)))
+      ∙ numbered_none ms (λ j d lt. none (suc j) d (omega (arith, lt)))
 
-  pub beside_place : (ns : List ℕ) (each : List Occurrences) (i : ℕ) → Rising ns → IsBinarySearchResult (λ y. nat_cmp y k) ns (Ok i) → beside ns each k ≡ slice_get each i
-  beside_place ns each i r found =
-      let hit = searched ns k (Ok i) found (rising_weakly ns r) in
-      beside_found ns each i (λ j below same. let less = rising_apart ns j i r below hit.0 in omega (arith, less, same, hit.1)) hit.0 hit.1
+  -- what a search by number says
+  pub searched_number : (cs : List Child) (i : ℕ) (c : Child) → IsBinarySearchResult (λ (one : Child). nat_cmp one.node k) cs (Ok i) → c ≡ get_or cs i c → c.node ≡ k
+  searched_number cs i c equal is = ranked c.node k _ (sym (ap (λ (one : Child). nat_cmp one.node k) is ∙ equal c))
 
-  pub beside_missed : (ns : List ℕ) (each : List Occurrences) (i : ℕ) → Rising ns → IsBinarySearchResult (λ y. nat_cmp y k) ns (Err i) → beside ns each k ≡ None
-  beside_missed ns each i r found =
-      let miss = searched ns k (Err i) found (rising_weakly ns r) in
-      beside_none ns each (λ j lt same.
+  pub numbered_missed : (cs : List Child) (i : ℕ) → Rising cs → IsBinarySearchResult (λ (one : Child). nat_cmp one.node k) cs (Err i) → numbered cs k ≡ None
+  numbered_missed cs i r parted =
+      let sides = parted (λ a b d le lt. higher (get_or cs a d).node (get_or cs b d).node (rising_weakly d cs r a b le lt)) in
+      numbered_none cs (λ j d lt same.
       ⊎_elim
-      (λ below. let less = miss.1 j below in omega (arith, less, same))
-      (λ past. let more = miss.2 j past lt in omega (arith, more, same))
+      (λ before. let less : (get_or cs j d).node < k = ranked _ k _ (sym (sides.0 j d (omega arith) before)) in omega (arith, less, same))
+      (λ behind. let more : k < (get_or cs j d).node = ranked _ k _ (sym (sides.1 j d behind lt)) in omega (arith, more, same))
       (cases_lt j i))
+    where
+      higher : (a b : ℕ) → a ≤ b → ordering_index (nat_cmp a k) ≤ ordering_index (nat_cmp b k)
+      higher a b le = grind (arith, nat_tests)
 
-  pub beside_above : (ns : List ℕ) (each : List Occurrences) → AllByRecursion (λ n. n < k) ns → beside ns each k ≡ None
-  beside_above [] each a = refl
-  beside_above (n ∷ ns) [] a = refl
-  beside_above (n ∷ ns) (o ∷ each) a =
-      ap (λ b. if b then Some o else beside ns each k) (other_number n k (λ e. omega (arith, a.0, e))) ∙ beside_above ns each a.1
+  numbered_above : (cs : List Child) → AllByRecursion (λ c. c.node < k) cs → numbered cs k ≡ None
+  numbered_above [] a = refl
+  numbered_above (m ∷ ms) a =
+      ap (λ b. if b then Some m.occurrences else numbered ms k) (other_number m.node k (λ e. omega (arith, a.0, e))) ∙ numbered_above ms a.1
 
   module _ (o : Occurrences) where
-    pub beside_here : (ns : List ℕ) (each : List Occurrences) → length each ≡ length ns → AllByRecursion (λ n. n < k) ns → beside (ns ++ k ∷ []) (each ++ o ∷ []) k ≡ Some o
-    beside_here [] [] same a = ap (λ b. if b then Some o else None) (same_number k k refl)
-    beside_here [] (p ∷ each) same a = absurd (omega (arith, same))
-    beside_here (n ∷ ns) [] same a = absurd (omega (arith, same))
-    beside_here (n ∷ ns) (p ∷ each) same a =
-        ap (λ b. if b then Some p else beside (ns ++ k ∷ []) (each ++ o ∷ []) k) (other_number n k (λ e. omega (arith, a.0, e)))
-        ∙ beside_here ns each (omega (arith, same)) a.1
+    numbered_here : (cs : List Child) → AllByRecursion (λ c. c.node < k) cs → numbered (cs ++ record { node = k; occurrences = o } ∷ []) k ≡ Some o
+    numbered_here [] a = ap (λ b. if b then Some o else None) (same_number k k refl)
+    numbered_here (m ∷ ms) a =
+        ap (λ b. if b then Some m.occurrences else numbered (ms ++ record { node = k; occurrences = o } ∷ []) k) (other_number m.node k (λ e. omega (arith, a.0, e)))
+        ∙ numbered_here ms a.1
 
-    pub beside_before : (ns : List ℕ) (each : List Occurrences) (j : ℕ) → length each ≡ length ns → j < k → beside (ns ++ k ∷ []) (each ++ o ∷ []) j ≡ beside ns each j
-    beside_before [] [] j same lt = ap (λ b. if b then Some o else None) (other_number k j (λ e. omega (arith, lt, e)))
-    beside_before [] (p ∷ each) j same lt = absurd (omega (arith, same))
-    beside_before (n ∷ ns) [] j same lt = absurd (omega (arith, same))
-    beside_before (n ∷ ns) (p ∷ each) j same lt = ap (λ r. if n == j then Some p else r) (beside_before ns each j (omega (arith, same)) lt)
+    numbered_before : (cs : List Child) (j : ℕ) → j < k → numbered (cs ++ record { node = k; occurrences = o } ∷ []) j ≡ numbered cs j
+    numbered_before [] j lt = ap (λ b. if b then Some o else None) (other_number k j (λ e. omega (arith, lt, e)))
+    numbered_before (m ∷ ms) j lt = ap (λ r. if m.node == j then Some m.occurrences else r) (numbered_before ms j lt)
 
 -- ---- one more node that occurs
 
 pub stays_up_to : (x : Found) (k : ℕ) → IsUpTo k x → IsUpTo (k + 1) x
-stays_up_to x k up = record { same = up.same; rising = up.rising; below = all_below x.nodes.items k (k + 1) (omega arith) up.below }
+stays_up_to x k up = record { rising = up.rising; below = all_below (children_of x) k (k + 1) (omega arith) up.below }
 
 pub none_here : (x : Found) (k : ℕ) → IsUpTo k x → kept x k ≡ None
-none_here x k up = beside_above k x.nodes.items x.each.items up.below
+none_here x k up = numbered_above k (children_of x) up.below
 
-module _ (x y : Found) (k : ℕ) (up : IsUpTo k x) (o : Occurrences) (ns : y.nodes.items ≡ x.nodes.items ++ k ∷ []) (each : y.each.items ≡ x.each.items ++ o ∷ []) where
+module _ (x y : Found) (k : ℕ) (up : IsUpTo k x) (o : Occurrences) (put : children_of y ≡ children_of x ++ record { node = k; occurrences = o } ∷ []) where
   pub put_up_to : IsUpTo (k + 1) y
   put_up_to = record {
-    same = omega (arith, ap length ns, ap length each, length-append x.nodes.items (k ∷ []), length-append x.each.items (o ∷ []), up.same);
-    rising = subst Rising (sym ns) (rising_push x.nodes.items k up.rising up.below);
-    below = subst (AllByRecursion (λ n. n < k + 1)) (sym ns) (all_two (λ n. n < k + 1) x.nodes.items (k ∷ []) (all_below x.nodes.items k (k + 1) (omega arith) up.below) (omega arith, tt));
+    rising = subst Rising (sym put) (rising_push (children_of x) (record { node = k; occurrences = o }) up.rising up.below);
+    below = subst (AllByRecursion (λ (c : Child). c.node < k + 1)) (sym put)
+        (all_two (λ c. c.node < k + 1) (children_of x) _ (all_below (children_of x) k (k + 1) (omega arith) up.below) (omega arith, tt));
   }
 
-  put_at : (j : ℕ) → kept y j ≡ beside (x.nodes.items ++ k ∷ []) (x.each.items ++ o ∷ []) j
-  put_at j = ap (λ l. beside l y.each.items j) ns ∙ ap (λ l. beside (x.nodes.items ++ k ∷ []) l j) each
-
   pub put_here : kept y k ≡ Some o
-  put_here = put_at k ∙ beside_here k o x.nodes.items x.each.items up.same up.below
+  put_here = ap (λ l. numbered l k) put ∙ numbered_here k o (children_of x) up.below
 
   pub put_before : (j : ℕ) → j < k → kept y j ≡ kept x j
-  put_before j lt = put_at j ∙ beside_before k o x.nodes.items x.each.items j up.same lt
+  put_before j lt = ap (λ l. numbered l j) put ∙ numbered_before k o (children_of x) j lt
 
 -- ---- groups
 
 pub found_groups : (v : Vec Found Global) → found_of (Some (Groups v)) ≡ v.items
-found_groups v = items_hidden-the_row-Found-1 v
+found_groups v = items_hidden-the_row-Found-0 v
 
 pub each_more : (F : Found → Tree) (xs : List Found) (x : Found) → each_tree F (xs ++ x ∷ []) ≡ append_trees (each_tree F xs) (trees (F x) no_trees)
 each_more F [] x = refl
@@ -208,6 +206,7 @@ module _ (P : ℕ → Type 0) (listed : List ℕ) (within : AllByRecursion P lis
   pub numbers_within : (o : Option Occurrences) → AllByRecursion P (numbers_of listed o)
   numbers_within None = tt
   numbers_within (Some (Segments from count)) = all_first P count (drop from listed) (all_behind P from listed within)
+  numbers_within (Some (OneGroup x)) = tt
   numbers_within (Some (Groups' shape row)) = tt
 
   each_within : (F : Found → Tree) → ((x : Found) → AllByRecursion P (flatten (F x))) → (xs : List Found) → AllByRecursion P (flatten_all (each_tree F xs))

@@ -6,7 +6,7 @@ ghost use Rattle.std.specs.Str.{bytes_eq};
 ghost use Rattle.gw_validate.specs.own.Building.{Builds, BuildsGroups, BuildsSegments};
 ghost use Rattle.gw_profile.specs.Shapes.{nothing};
 ghost use Rattle.gw_profile.specs.Seen.{forest, node_forest, segment_value};
-ghost use Rattle.gw_validate.specs.own.Occurring.{tree_from, tree_of, trees_of, AreOrdered, IsOrdered};
+ghost use Rattle.gw_validate.specs.own.Occurring.{found_of, tree_from, tree_of, trees_of, AreOrdered, IsOrdered};
 ghost use Rattle.gw_validate.specs.Trees.{IsTree};
 ghost use Rattle.gw_validate.specs.own.Tests.{can_begin, node_begins};
 ghost use Rattle.gw_validate.specs.Conforming.{named};
@@ -14,7 +14,7 @@ ghost use Rattle.gw_validate.specs.Cuts.{Fits};
 ghost use Rattle.gw_profile.specs.Deterministic.{Determined, NoName};
 
 use crate::listing::name_at;
-use crate::occurrences::{Found, Occurrences, of_group, of_segment};
+use crate::occurrences::{Found, Occurrences, of_segment, one_more};
 use crate::walk::{has_room, less_one, same_name};
 use gw_er7::Message;
 use gw_profile::{Card, Node, SegNode};
@@ -91,12 +91,12 @@ fn build_groups(
     message: &Message,
     listed: &[usize],
     at: usize,
-) -> Result<(Vec<Found>, usize), AllocError>
+) -> Result<(Option<Occurrences>, usize), AllocError>
     ensures built { IfOk result (λ b. BuildsGroups (named message.now) card.min card.max (forest children.now)
-        (drop at listed.now) (trees_of listed.now (forest children.now) b.0.items) (drop b.1 listed.now)) }
-    ensures ordered { IfOk result (λ b. AllByRecursion (IsOrdered (forest children.now)) b.0.items) }
+        (drop at listed.now) (trees_of listed.now (forest children.now) (found_of b.0)) (drop b.1 listed.now)) }
+    ensures ordered { IfOk result (λ b. AllByRecursion (IsOrdered (forest children.now)) (found_of b.0)) }
 {
-    let mut found = Vec::new(alloc);
+    let mut found = None;
     let mut due = card;
     let mut here = at;
     while here < listed.len() {
@@ -107,7 +107,7 @@ fn build_groups(
         if behind <= here {
             return Ok((found, here));
         }
-        found.push(one)?;
+        found = Some(one_more(alloc, found, one)?);
         due = less_one(due);
         here = behind;
     }
@@ -132,17 +132,7 @@ fn build_node(
             let behind = pass_segments(segment, message, listed, at);
             Ok((of_segment(at, behind), behind))
         }
-        Node::Group(group) => {
-            let (found, behind) = build_groups(
-                alloc,
-                group.card,
-                &group.nodes,
-                message,
-                listed,
-                at,
-            )?;
-            Ok((of_group(found), behind))
-        }
+        Node::Group(group) => build_groups(alloc, group.card, &group.nodes, message, listed, at),
     }
 }
 

@@ -29,6 +29,7 @@ enum Shown<'a> {
 }
 
 // The number at this place.
+#[inline(always)]
 fn number_at(numbers: &[usize], k: usize) -> usize
     requires { k < length numbers.now }
     ensures { result ≡ get_or numbers.now k 0 }
@@ -37,6 +38,7 @@ fn number_at(numbers: &[usize], k: usize) -> usize
 }
 
 // The occurrence of a group at this place.
+#[inline(always)]
 fn group_at<'a>(groups: &'a [Found], k: usize) -> &'a Found
     requires { k < length groups.now }
     ensures { result.now ≡ get_or groups.now k result.now }
@@ -46,6 +48,7 @@ fn group_at<'a>(groups: &'a [Found], k: usize) -> &'a Found
 
 impl<'a> Row<'a> {
     // How often the child of this number occurs.
+    #[inline]
     fn count(&self, child: usize) -> usize
         requires child { child < length self.now.nodes.now }
         requires ordered { IsOrdered (forest self.now.nodes.now) self.now.found.now }
@@ -58,6 +61,7 @@ impl<'a> Row<'a> {
     }
 
     // The occurrence of this number of the child.
+    #[inline]
     fn child(&self, child: usize, k: usize) -> Shown<'a>
         requires child { child < length self.now.nodes.now }
         requires k { k < count_at (row_tree self.now) child }
@@ -131,6 +135,7 @@ impl<'a> Occ<'a> {
     }
 
     /// The same occurrence, borrowed once more, without an allocation.
+    #[inline(always)]
     pub fn reborrow(&self) -> Occ<'a>
         ensures { result ≡ self.now }
     {
@@ -141,6 +146,7 @@ impl<'a> Occ<'a> {
     }
 
     /// How many children it has: as many as its node has, none for a segment. It takes no memory.
+    #[inline(always)]
     pub fn children(&self) -> usize
         ensures count { result ≡ width self.now.tree }
         ensures lent { IsLent self.now }
@@ -152,6 +158,7 @@ impl<'a> Occ<'a> {
     }
 
     /// How often the child of this number, from 0, occurs. It takes no memory.
+    #[inline]
     pub fn count(&self, child: usize) -> usize
         requires { child < width self.now.tree }
         ensures { result ≡ count_at self.now.tree child }
@@ -163,6 +170,7 @@ impl<'a> Occ<'a> {
     }
 
     /// The occurrence of this number, from 0, of the child. It takes no memory.
+    #[inline]
     pub fn child(&self, child: usize, k: usize) -> Occ<'a>
         requires child { child < width self.now.tree }
         requires k { k < count_at self.now.tree child }
@@ -179,6 +187,7 @@ impl<'a> Occ<'a> {
     }
 
     /// The segment, None for a group. It takes no memory.
+    #[inline(always)]
     pub fn segment(&self) -> Option<Segment<'a>>
         ensures segment { result ≡ segment_of self.now }
         ensures lent { IsLent self.now }

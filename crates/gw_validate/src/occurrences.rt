@@ -1,9 +1,10 @@
 //! The occurrences of a profile's nodes in a message, as they are kept: those of each node that occurs.
-ghost use Rattle.std.specs.Prelude.{◌≡◌, ℕ, List, ◌+◌, ◌-◌, ◌≤◌, ◌<◌, [], take, drop, slice_get, OnOk};
+ghost use Rattle.std.specs.Prelude.{◌≡◌, ℕ, List, ◌+◌, ◌-◌, ◌≤◌, ◌<◌, [], ◌∷◌, ◌++◌, take, drop, Some, IfOk, OnOk};
 ghost use Rattle.std.specs.Option.{option_copied};
-ghost use Rattle.gw_validate.specs.own.Occurring.{Rising, kept, numbers_of, found_of, IsUpTo};
+ghost use Rattle.gw_validate.specs.own.Occurring.{Rising, children_of, kept, numbers_of, found_of, IsUpTo};
 
 use std::alloc::{AllocError, Global};
+use std::slice;
 
 /// The occurrences of one node, in order.
 #[derive(Drop)]
@@ -11,17 +12,24 @@ use std::alloc::{AllocError, Global};
 pub(crate) enum Occurrences {
     /// Those of a segment: `count` of the listed numbers, from the index `from`.
     Segments { from: usize, count: usize },
+    /// The one of a group.
+    OneGroup(Found),
     Groups(Vec<Found>),
 }
 
-/// One occurrence of a group, or of the whole profile.
+/// A child node that occurs: its number, from 0, and its occurrences.
+#[derive(Drop)]
+#[cycle(tree)]
+pub(crate) struct Child {
+    pub(crate) node: usize,
+    pub(crate) occurrences: Occurrences,
+}
+
+/// One occurrence of a group, or of the whole profile: the child nodes that occur, whose numbers rise.
 #[derive(Drop)]
 #[cycle(tree)]
 pub(crate) struct Found {
-    /// The numbers, from 0, of the child nodes that occur. They rise.
-    pub(crate) nodes: Vec<usize>,
-    /// For each of them its occurrences.
-    pub(crate) each: Vec<Occurrences>,
+    pub(crate) children: Vec<Child>,
 }
 
 /// The occurrences of a segment: of what is listed, from one place up to another.
@@ -39,17 +47,36 @@ pub(crate) fn of_segment(from: usize, to: usize) -> Option<Occurrences>
     })
 }
 
-/// The occurrences of a group.
-pub(crate) fn of_group(found: Vec<Found>) -> Option<Occurrences>
-    ensures { found_of result ≡ found.items }
+// Two occurrences of a group.
+fn two_groups(alloc: Global, first: Found, second: Found) -> Result<Occurrences, AllocError>
+    ensures { IfOk result (λ all. found_of (Some all) ≡ first ∷ second ∷ []) }
 {
-    if found.is_empty() {
-        return None;
+    let mut found = Vec::new(alloc);
+    found.push(first)?;
+    found.push(second)?;
+    Ok(Occurrences::Groups(found))
+}
+
+/// The occurrences of a group, and one more behind them.
+pub(crate) fn one_more(
+    alloc: Global,
+    before: Option<Occurrences>,
+    one: Found,
+) -> Result<Occurrences, AllocError>
+    ensures { IfOk result (λ all. found_of (Some all) ≡ found_of before ++ one ∷ []) }
+{
+    match before {
+        Some(Occurrences::OneGroup(first)) => two_groups(alloc, first, one),
+        Some(Occurrences::Groups(mut found)) => {
+            found.push(one)?;
+            Ok(Occurrences::Groups(found))
+        }
+        _ => Ok(Occurrences::OneGroup(one)),
     }
-    Some(Occurrences::Groups(found))
 }
 
 // `count` of the numbers, from one on.
+#[inline]
 fn part(numbers: &[usize], from: usize, count: usize) -> &[usize]
     ensures { result.now ≡ take count (drop from numbers.now) }
 {
@@ -66,12 +93,10 @@ fn part(numbers: &[usize], from: usize, count: usize) -> &[usize]
 impl Found {
     /// No node occurs.
     pub(crate) fn none(alloc: Global) -> Found
-        ensures nodes { result.nodes.items ≡ [] }
-        ensures each { result.each.items ≡ [] }
+        ensures { children_of result ≡ [] }
     {
         Found {
-            nodes: Vec::new(alloc),
-            each: Vec::new(alloc),
+            children: Vec::new(alloc),
         }
     }
 
@@ -85,35 +110,28 @@ impl Found {
         let Some(occurrences) = one else {
             return Ok(());
         };
-        self.nodes.push(node)?;
-        self.each.push(occurrences)?;
+        self.children.push(Child { node, occurrences })?;
         Ok(())
-    }
-
-    // The occurrences at this place.
-    fn at_place(&self, place: usize) -> Option<&Occurrences>
-        ensures { option_copied result ≡ slice_get self.now.each.items place }
-    {
-        if place >= self.each.len() {
-            return None;
-        }
-        Some(&self.each[place])
     }
 
     // The occurrences of the node of this number.
     fn of_node(&self, node: usize) -> Option<&Occurrences>
-        requires { Rising self.now.nodes.items }
+        requires { Rising (children_of self.now) }
         ensures { option_copied result ≡ kept self.now node }
     {
-        match self.nodes.binary_search(&node) {
-            Ok(place) => self.at_place(place),
+        match self
+            .children
+            .binary_search_by_key(&node, |child| child.node)
+        {
+            Ok(place) => Some(&self.children[place].occurrences),
             Err(_) => None,
         }
     }
 
     /// The numbers of a node's segments, of those that are listed.
+    #[inline]
     pub(crate) fn segments<'a>(&self, listed: &'a [usize], node: usize) -> &'a [usize]
-        requires { Rising self.now.nodes.items }
+        requires { Rising (children_of self.now) }
         ensures { result.now ≡ numbers_of listed.now (kept self.now node) }
     {
         let Some(one) = self.of_node(node) else {
@@ -121,13 +139,14 @@ impl Found {
         };
         match one {
             Occurrences::Segments { from, count } => part(listed, *from, *count),
-            Occurrences::Groups(_) => &[],
+            _ => &[],
         }
     }
 
     /// The occurrences of a group's node.
+    #[inline]
     pub(crate) fn groups(&self, node: usize) -> &[Found]
-        requires { Rising self.now.nodes.items }
+        requires { Rising (children_of self.now) }
         ensures { result.now ≡ found_of (kept self.now node) }
     {
         let Some(one) = self.of_node(node) else {
@@ -135,6 +154,7 @@ impl Found {
         };
         match one {
             Occurrences::Segments { .. } => &[],
+            Occurrences::OneGroup(found) => slice::from_ref(found),
             Occurrences::Groups(found) => found,
         }
     }

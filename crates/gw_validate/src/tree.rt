@@ -74,6 +74,7 @@ impl Tree {
     }
 
     /// The profile. It takes no memory.
+    #[inline(always)]
     pub fn profile(&self) -> &Arc<Profile>
         ensures { arc_value result.now ≡ self.now.profile }
     {
@@ -81,6 +82,7 @@ impl Tree {
     }
 
     /// The message. It takes no memory.
+    #[inline(always)]
     pub fn message(&self) -> &Message
         ensures message { result.now ≡ self.now.message }
         ensures conforms { Conforms (profile_value self.now.profile) self.now.message }
@@ -89,6 +91,7 @@ impl Tree {
     }
 
     /// The occurrence of the whole profile, whose children are the nodes at its top. It takes no memory.
+    #[inline]
     pub fn root(&self) -> Occ<'_>
         ensures root { result ≡ record { message = self.now.message; number = None; tree = self.now.tree } }
         ensures tree { IsTreeOf (profile_value self.now.profile) self.now.message self.now.tree }

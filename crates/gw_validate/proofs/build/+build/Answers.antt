@@ -1,21 +1,22 @@
-use Rattle.std.proofs.Common.{List, sym, subst, ap, ◌∙◌, arith, drop, get_or}
+use Rattle.std.proofs.Common.{List, Result, Ok, Err, IfOk, sym, subst, ap, ◌∙◌, arith, drop, get_or}
 use Rattle.std.specs.List.{AllByRecursion}
 use Rattle.gw_profile.specs.Seen.{forest}
 use Rattle.gw_validate.specs.declared.occurrences.Found.{Found}
 use Rattle.gw_validate.specs.own.Building.{GoGroups}
-use Rattle.gw_validate.specs.own.Occurring.{tree_of, trees_of, IsOrdered}
+use Rattle.gw_validate.specs.own.Occurring.{found_of, tree_of, trees_of, IsOrdered}
 use Rattle.gw_validate.specs.Conforming.{named}
 use Rattle.gw_validate.proofs.Rows.{all_two, each_more}
 use Rattle.gw_validate.proofs.Building.{groups_init, groups_over, groups_stopped, groups_never, groups_next, node_of_segment, segment_ordered, node_of_group, group_ordered, nodes_begin, nodes_more, nodes_over}
 use Rattle.gw_validate.proofs.Searching.{any_default}
 use Rattle.gw_validate.proofs.build.+build.Goals as goal
 
+-- what follows of a value, where there is one
+if_ok : {X E : Type 0} (P Q : X → Type 0) → ((x : X) → P x → Q x) → (r : Result X E) → IfOk r P → IfOk r Q
+if_ok P Q more (Ok x) h = more x h
+if_ok P Q more (Err e) h = tt
+
 pub build_groups-loop-here-init : goal.build_groups-loop-here-init
-build_groups-loop-here-init t c = record {
-  going = subst (λ (fs : List Found). GoGroups (named c.args.message.now) c.args.card.min c.args.card.max (forest c.args.children.now) (drop c.args.at c.args.listed.now) (trees_of c.args.listed.now (forest c.args.children.now) fs) c.args.card.min c.args.card.max (drop c.args.at c.args.listed.now)) (sym c.new-found.ensures.items)
-      (groups_init (named c.args.message.now) c.args.card.min c.args.card.max (forest c.args.children.now) (drop c.args.at c.args.listed.now));
-  ordered = subst (AllByRecursion (IsOrdered (forest c.args.children.now))) (sym c.new-found.ensures.items) tt;
-}
+build_groups-loop-here-init t c = record { going = groups_init (named c.args.message.now) c.args.card.min c.args.card.max (forest c.args.children.now) (drop c.args.at c.args.listed.now); ordered = tt }
 
 pub build_groups-returns-then-not-can_go_on-clause-built : goal.build_groups-returns-then-not-can_go_on-clause-built
 build_groups-returns-then-not-can_go_on-clause-built t c =
@@ -31,10 +32,10 @@ pub build_groups-loop-here-preserved : goal.build_groups-loop-here-preserved
 build_groups-loop-here-preserved t c = record {
   going = groups_next (named c.args.message.now) _ _ (forest c.args.children.now) _ _ c.loop-here.due.min c.loop-here.due.max c.args.listed.now c.loop-here.here c.loop-here.invariant.going
       (get_or c.args.listed.now c.loop-here.here 0) c.loop-here-test.true (any_default c.args.listed.now c.loop-here.here 0 _ c.loop-here-test.true) (tree_of c.args.listed.now (forest c.args.children.now) c.in_ok-one.one) c.in_ok-one.behind c.if-not-can_go_on.ensures c.in_ok-one.ensures.built _ _ _
-      (ap (trees_of c.args.listed.now (forest c.args.children.now)) c.in_ok-push.ensures.items ∙ each_more (tree_of c.args.listed.now (forest c.args.children.now)) c.loop-here.found.items c.in_ok-one.one)
+      (ap (trees_of c.args.listed.now (forest c.args.children.now)) c.in_ok-one_more.ensures ∙ each_more (tree_of c.args.listed.now (forest c.args.children.now)) (found_of c.loop-here.found) c.in_ok-one.one)
       c.less_one-due.ensures.min c.less_one-due.ensures.max;
-  ordered = subst (AllByRecursion (IsOrdered (forest c.args.children.now))) (sym c.in_ok-push.ensures.items)
-      (all_two (IsOrdered (forest c.args.children.now)) c.loop-here.found.items _ c.loop-here.invariant.ordered (c.in_ok-one.ensures.ordered, tt));
+  ordered = subst (AllByRecursion (IsOrdered (forest c.args.children.now))) (sym c.in_ok-one_more.ensures)
+      (all_two (IsOrdered (forest c.args.children.now)) (found_of c.loop-here.found) _ c.loop-here.invariant.ordered (c.in_ok-one.ensures.ordered, tt));
 }
 
 pub build_groups-returns-clause-built : goal.build_groups-returns-clause-built
@@ -48,14 +49,14 @@ build_node-returns-in-Seg t c = record {
   ordered = segment_ordered (named c.args.message.now) c.args.listed.now (drop c.args.at c.args.listed.now) (drop c.args.at c.args.listed.now) c.of_segment.result c.args.node.now c.in-Seg.segment c.in-Seg.is;
 }
 
-pub build_node-returns-in_ok-found-in-Group : goal.build_node-returns-in_ok-found-in-Group
-build_node-returns-in_ok-found-in-Group t c = record {
-  built = node_of_group (named c.args.message.now) c.args.listed.now _ _ c.of_group.result c.args.node.now c.in-Group.group _ _ c.in-Group.is c.deref.ensures.value c.of_group.ensures c.in_ok-found-in-Group.ensures.built;
-  ordered = group_ordered (named c.args.message.now) c.args.listed.now (drop c.args.at c.args.listed.now) (drop c.args.at c.args.listed.now) c.of_group.result c.args.node.now c.in-Group.group _ _ c.in-Group.is c.deref.ensures.value c.of_group.ensures c.in_ok-found-in-Group.ensures.ordered;
+pub build_node-returns-in-Group : goal.build_node-returns-in-Group
+build_node-returns-in-Group t c = record {
+  built = if_ok _ _ (λ b h. node_of_group (named c.args.message.now) c.args.listed.now _ _ b.0 c.args.node.now c.in-Group.group _ c.in-Group.is c.deref.ensures.value h) c.build_groups.result c.build_groups.ensures.built;
+  ordered = if_ok _ _ (λ b h. group_ordered (named c.args.message.now) c.args.listed.now (drop c.args.at c.args.listed.now) (drop c.args.at c.args.listed.now) b.0 c.args.node.now c.in-Group.group _ c.in-Group.is c.deref.ensures.value h) c.build_groups.result c.build_groups.ensures.ordered;
 }
 
 pub build_nodes-loop-i-init : goal.build_nodes-loop-i-init
-build_nodes-loop-i-init t c = nodes_begin (named c.args.message.now) c.args.listed.now c.args.nodes.now (drop c.args.at c.args.listed.now) c.none-found.result c.none-found.ensures.nodes c.none-found.ensures.each
+build_nodes-loop-i-init t c = nodes_begin (named c.args.message.now) c.args.listed.now c.args.nodes.now (drop c.args.at c.args.listed.now) c.none-found.result c.none-found.ensures
 
 pub build_nodes-loop-i-preserved : goal.build_nodes-loop-i-preserved
 build_nodes-loop-i-preserved t c =

@@ -9,5 +9,8 @@ returns-in_default c = ap found_of c.in_default.ensures
 pub returns-in-Segments : goal.returns-in-Segments
 returns-in-Segments c = ap found_of (ap Some (sym c.in-Segments.is) ∙ c.in-Some.ensures)
 
+pub returns-in-OneGroup : goal.returns-in-OneGroup
+returns-in-OneGroup c = c.from_ref.ensures.value ∙ ap found_of (ap Some (sym c.in-OneGroup.is) ∙ c.in-Some.ensures)
+
 pub returns-in-Groups : goal.returns-in-Groups
 returns-in-Groups c = c.deref.ensures.value ∙ sym (found_groups c.in-Groups.found) ∙ ap found_of (ap Some (sym c.in-Groups.is) ∙ c.in-Some.ensures)

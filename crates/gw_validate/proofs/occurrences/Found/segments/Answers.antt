@@ -7,6 +7,3 @@ returns-in_default c = ap (numbers_of c.args.listed.now) c.in_default.ensures
 
 pub returns-in-Segments : goal.returns-in-Segments
 returns-in-Segments c = c.part.ensures ∙ ap (numbers_of c.args.listed.now) (ap Some (sym c.in-Segments.is) ∙ c.in-Some.ensures)
-
-pub returns-in-Groups : goal.returns-in-Groups
-returns-in-Groups c = ap (numbers_of c.args.listed.now) (ap Some (sym c.in-Groups.is) ∙ c.in-Some.ensures)
