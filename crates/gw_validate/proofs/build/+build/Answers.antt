@@ -1,8 +1,6 @@
-use Rattle.std.proofs.Common.{List, Result, Ok, Err, IfOk, sym, subst, ap, ◌∙◌, arith, drop, get_or}
+use Rattle.std.proofs.Common.{Result, Ok, Err, IfOk, sym, subst, ap, ◌∙◌, arith, drop, get_or}
 use Rattle.std.specs.List.{AllByRecursion}
 use Rattle.gw_profile.specs.Seen.{forest}
-use Rattle.gw_validate.specs.declared.occurrences.Found.{Found}
-use Rattle.gw_validate.specs.own.Building.{GoGroups}
 use Rattle.gw_validate.specs.own.Occurring.{found_of, tree_of, trees_of, IsOrdered}
 use Rattle.gw_validate.specs.Conforming.{named}
 use Rattle.gw_validate.proofs.Rows.{all_two, each_more}
