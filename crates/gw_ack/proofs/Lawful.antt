@@ -40,7 +40,7 @@ those-each number P Q to [] h = tt
 those-each number P Q to (e ∷ es) h =
     Each-append Q (strip number e.0 e.1) (those number es) (stripped number P Q to e.0 e.1 h.0) (those-each number P Q to es h.1)
 
-those-keyed : (number count : ℕ) (es : List Entry) → AllByRecursion (IsKeyed (suc count)) es → AllByRecursion (IsKeyed count) (those number es)
+pub those-keyed : (number count : ℕ) (es : List Entry) → AllByRecursion (IsKeyed (suc count)) es → AllByRecursion (IsKeyed count) (those number es)
 those-keyed number count =
     those-each number (IsKeyed (suc count)) (IsKeyed count) (λ key text is.
     record { count_is = omega (arith, is.count_is); positive = is.positive.1; text = is.text; some = is.some })
@@ -65,11 +65,11 @@ strip-sorted number (m ∷ key) text es h k =
     cond_both (m == number) ((key, text) ∷ []) [] (λ front. T (is_sorted order (front ++ those number es)))
     (λ is. both _ _ (those-below number key es (subst (λ (j : ℕ). T (below_all order (j ∷ key) es)) (eqb-true m number is) h)) k) (λ _. k)
 
-those-sorted : (number : ℕ) (es : List Entry) → T (is_sorted order es) → T (is_sorted order (those number es))
+pub those-sorted : (number : ℕ) (es : List Entry) → T (is_sorted order es) → T (is_sorted order (those number es))
 those-sorted number [] h = tt
 those-sorted number (e ∷ es) h = strip-sorted number e.0 e.1 es (first _ _ h) (those-sorted number es (second _ _ h))
 
-repetition_is_lawful : (least number : ℕ) (es : List Entry) → T (is_sorted order es) → AllByRecursion (IsEntry least) es
+pub repetition_is_lawful : (least number : ℕ) (es : List Entry) → T (is_sorted order es) → AllByRecursion (IsEntry least) es
     → IsRepetition (first_repetition number es)
 repetition_is_lawful least number es sorted each =
     let four : AllByRecursion (IsKeyed 4) es =

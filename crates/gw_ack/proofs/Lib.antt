@@ -3,3 +3,8 @@ pub mod AnswerRows
 pub mod Lines
 pub mod Tables
 pub mod Says
+pub mod Numbers
+pub mod Reread
+pub mod Copying
+pub mod Heads
+pub mod Joined

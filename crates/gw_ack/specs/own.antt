@@ -1,2 +1,3 @@
 -- The program's own words: no public contract rests on them.
 pub mod Kept
+pub mod Joined

@@ -1,16 +1,17 @@
 //! Answers, as contents.
-ghost use Rattle.std.specs.Prelude.{◌≡◌, ◌++◌, ◌∷◌, [], ℕ, codes, map, IfOk, OnOk};
+ghost use Rattle.std.specs.Prelude.{◌≡◌, ◌++◌, ◌∷◌, [], codes, map, IfOk, OnOk};
 ghost use Rattle.std.specs.Fmt.{decimal};
 ghost use Rattle.std.specs.List.{AllByRecursion};
 ghost use Rattle.gw_er7.specs.Message.{IsMessage, IsOther};
 ghost use Rattle.gw_er7.specs.Text.{IsCanonical};
-ghost use Rattle.gw_er7.specs.Written.{written};
+ghost use Rattle.gw_er7.specs.Written.{closed_line, written};
 ghost use Rattle.gw_ack.specs.declared.receipt.Ack.TheVariants as ack;
 ghost use Rattle.gw_ack.specs.declared.reply.Reply.TheVariants.{Accept, Refuse, Reject};
 ghost use Rattle.gw_ack.specs.Acknowledged.{Acknowledges};
 ghost use Rattle.gw_ack.specs.Answers.{ack_of, ack_text, acknowledged, segment, msh, msa, err, reason, said_by};
 ghost use Rattle.gw_ack.specs.Conditions.{IsRejection};
 ghost use Rattle.gw_ack.specs.Seen.{rows};
+ghost use Rattle.gw_ack.specs.own.Joined.{parties};
 
 use crate::condition::{condition, location_for, named, said};
 use crate::header::Header;
@@ -20,6 +21,7 @@ use crate::rows::add_field;
 use crate::stamp::Stamp;
 use gw_er7::{Value, write_segment};
 use gw_validate::Breach;
+use itoa::Buffer;
 use std::alloc::{AllocError, Global};
 
 /// Bytes of an answer for which room is taken at once: most take fewer.
@@ -34,37 +36,6 @@ fn code_text<'a>(ack: Ack) -> &'a [u8]
         Ack::AE => b"AE",
         Ack::AR => b"AR",
     }
-}
-
-/// The rows of the answer's MSH, where `number` is its control id.
-fn msh<'a>(
-    alloc: Global,
-    header: &'a Header,
-    stamp: &'a [u8],
-    number: &'a [u8],
-) -> Result<Vec<Value<'a>>, AllocError>
-    ensures { (arrival : ℕ) → number.now ≡ 71 ∷ decimal arrival → IfOk result (λ table. rows table.items ≡ msh header.now stamp.now arrival) }
-{
-    let mut table = Vec::with_capacity(alloc, 16)?;
-    header.add_receiver(&mut table)?;
-    header.add_sender(&mut table)?;
-    add_field(&mut table, 7, &[stamp])?;
-    let event = header.event();
-    add_field(&mut table, 9, &[b"ACK", event, b"ACK"])?;
-    add_field(&mut table, 10, &[number])?;
-    header.add_processing(&mut table)?;
-    add_field(&mut table, 12, &[b"2.5.1"])?;
-    Ok(table)
-}
-
-/// The rows of the answer's MSA.
-fn msa<'a>(alloc: Global, code: &'a [u8], control: &'a [u8]) -> Result<Vec<Value<'a>>, AllocError>
-    ensures { IfOk result (λ table. rows table.items ≡ msa code.now control.now) }
-{
-    let mut table = Vec::with_capacity(alloc, 2)?;
-    add_field(&mut table, 1, &[code])?;
-    add_field(&mut table, 2, &[control])?;
-    Ok(table)
 }
 
 /// The rows of the answer's ERR, where `number` is the code in decimal.
@@ -84,6 +55,60 @@ fn err<'a>(
     Ok(table)
 }
 
+/// Writes a field behind a separator.
+fn push_field(content: &mut Vec<u8>, text: &[u8]) -> Result<(), AllocError>
+    ensures { OnOk result (content.new.items ≡ content.old.items ++ 124 ∷ text.now) }
+{
+    content.push(b'|')?;
+    content.extend_from_slice(text)
+}
+
+/// Writes the sender and the receiver of an answer: those of the message, in each other's place.
+fn write_parties(content: &mut Vec<u8>, header: &Header) -> Result<(), AllocError>
+    ensures { OnOk result (content.new.items ≡ content.old.items ++ parties header.now) }
+{
+    push_field(content, header.receiving_application())?;
+    push_field(content, header.receiving_facility())?;
+    push_field(content, header.sending_application())?;
+    push_field(content, header.sending_facility())
+}
+
+/// Writes the MSH of an answer.
+fn write_msh(
+    content: &mut Vec<u8>,
+    header: &Header,
+    stamp: &[u8],
+    arrival: u64,
+) -> Result<(), AllocError>
+    ensures { OnOk result (content.new.items
+        ≡ content.old.items ++ closed_line (codes "MSH") (msh header.now stamp.now arrival)) }
+{
+    content.extend_from_slice(b"MSH|^~\\&")?;
+    write_parties(content, header)?;
+    push_field(content, stamp)?;
+    content.extend_from_slice(b"||ACK^")?;
+    content.extend_from_slice(header.event())?;
+    content.extend_from_slice(b"^ACK|G")?;
+    content.extend_from_slice(Buffer::new().format(arrival).as_bytes())?;
+    push_field(content, header.processing())?;
+    content.extend_from_slice(b"|2.5.1\r")?;
+    Ok(())
+}
+
+/// Writes the MSA of an answer.
+fn write_msa(content: &mut Vec<u8>, ack: Ack, control: &[u8]) -> Result<(), AllocError>
+    ensures { OnOk result (content.new.items
+        ≡ content.old.items ++ closed_line (codes "MSA") (msa (ack_text ack) control.now)) }
+{
+    content.extend_from_slice(b"MSA|")?;
+    content.extend_from_slice(code_text(ack))?;
+    if control.is_empty() {
+        return content.extend_from_slice(b"\r");
+    }
+    push_field(content, control)?;
+    content.extend_from_slice(b"\r")
+}
+
 /// Writes the MSH and the MSA of an answer.
 fn write_opening(
     content: &mut Vec<u8>,
@@ -96,14 +121,8 @@ fn write_opening(
     ensures lines { OnOk result (content.new.items
         ≡ content.old.items ++ written (acknowledged ack header.now stamp.now arrival)) }
 {
-    let alloc = *content.allocator();
-    let number = format!(in alloc; "G{arrival}")?;
-    let digits = stamp.digits();
-    let control = header.control();
-    let msh = msh(alloc, header, digits, number.as_bytes())?;
-    write_segment(content, *b"MSH", &msh)?;
-    let msa = msa(alloc, code_text(ack), control)?;
-    write_segment(content, *b"MSA", &msa)
+    write_msh(content, header, stamp.digits(), arrival)?;
+    write_msa(content, ack, header.control())
 }
 
 /// Writes an ERR, where `number` is the code in decimal.

@@ -5,6 +5,7 @@
 
 mod condition;
 mod content;
+mod copies;
 mod header;
 mod receipt;
 mod reply;
