@@ -12,8 +12,9 @@ use std::slice;
 pub(crate) enum Occurrences {
     /// Those of a segment: `count` of the listed numbers, from the index `from`.
     Segments { from: usize, count: usize },
-    /// The one of a group.
+    /// The one of a group that occurs once.
     OneGroup(Found),
+    /// Those of a group that occurs more than once.
     Groups(Vec<Found>),
 }
 
