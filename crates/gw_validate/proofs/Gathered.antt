@@ -1,6 +1,6 @@
--- The numbers that were found by names, and the names of numbers.
-use Rattle.std.proofs.Common.{◌≡◌, ℕ, zero, suc, ◌+◌, ◌<◌, Bool, true, false, List, [], ◌∷◌, ◌++◌, refl, sym, ap, ◌∙◌, arith, length, take, map, get_or, ◌≤◌}
-use Rattle.std.proofs.lemmas.List.{take_all, take_more, map-append}
+-- The numbers that were found by names.
+use Rattle.std.proofs.Common.{◌≡◌, ℕ, zero, suc, ◌+◌, ◌<◌, Bool, true, false, List, [], ◌∷◌, ◌++◌, refl, sym, ap, ◌∙◌, arith, length, take, ◌≤◌}
+use Rattle.std.proofs.lemmas.List.{take_all}
 use Rattle.std.specs.Prelude.{if◌then◌else◌}
 use Rattle.gw_er7.specs.Message.{SegmentValue}
 use Rattle.gw_profile.specs.Shapes.{Forest}
@@ -43,12 +43,3 @@ module _ (f : Forest) (m : List SegmentValue) (i : ℕ) (lt : i < length m) (fou
 
 pub numbers_all : (f : Forest) (m : List SegmentValue) (i count : ℕ) (found : List ℕ) → count ≡ length m → count ≤ i → found ≡ numbers f (take i m) → found ≡ numbers f m
 numbers_all f m i count found long end so_far = so_far ∙ ap (numbers f) (take_all i m (omega arith))
-
-module _ {X Y : Type 0} (f : X → Y) (xs : List X) (i : ℕ) (made : List Y) (so_far : made ≡ map f (take i xs)) where
-  pub mapped_more : (other : X) (new : List Y) (y : Y) → i < length xs → y ≡ f (get_or xs i other) → new ≡ made ++ y ∷ [] → new ≡ map f (take (i + 1) xs)
-  mapped_more other new y lt is grown =
-      grown ∙ ap (λ l. l ++ y ∷ []) so_far ∙ ap (λ z. map f (take i xs) ++ z ∷ []) is
-      ∙ sym (ap (map f) (take_more xs i other lt) ∙ map-append f (take i xs) (get_or xs i other ∷ []))
-
-  pub mapped_all : length xs ≤ i → made ≡ map f xs
-  mapped_all end = so_far ∙ ap (map f) (take_all i xs end)

@@ -1,6 +1,10 @@
 -- A name, and the shortest list, over joined forests.
 use Rattle.gw_profile.specs.Shapes.{SegmentValue, GroupValue}
-use Rattle.std.proofs.Common.{◌≡◌, ℕ, zero, suc, ◌-◌, Bool, true, false, List, [], ◌∷◌, ◌++◌, Option, Some, None, refl, sym, ap, ◌∙◌, subst, arith, append_assoc}
+use Rattle.std.proofs.Common.{◌≡◌, ℕ, zero, suc, ◌-◌, Bool, true, false, List, [], ◌∷◌, ◌++◌, Option, Some, None, refl, sym, ap, ◌∙◌, subst, arith, append_assoc, length, take, get_or, ◌+◌, ◌<◌}
+use Rattle.std.proofs.Math.ListN.{set}
+use Rattle.std.proofs.lemmas.List.{take_all, take_more, length-set}
+use Rattle.std.proofs.lemmas.Grind.{take-set_at}
+use Rattle.gw_profile.specs.declared.node.SegNode.{SegNode}
 use Rattle.gw_profile.specs.declared.shape.Card.{Card}
 use Rattle.gw_profile.specs.declared.node.Node.{Node, Seg, Group'}
 use Rattle.gw_validate.specs.declared.walk.Frame.{Frame}
@@ -12,7 +16,7 @@ use Rattle.gw_profile.specs.Seen.{forest}
 use Rattle.gw_profile.specs.Nodes.{card_of}
 use Rattle.gw_validate.specs.own.Shortest.{head, several, shortest, shortest_node}
 use Rattle.gw_validate.specs.own.State.{due_forest, frame_forest, stack_on, Tries}
-use Rattle.gw_validate.proofs.Walking.{append_assoc_forest, stack_on-push, node_due}
+use Rattle.gw_validate.proofs.Walking.{append_assoc_forest, stack_on-push, node_due, tried_segment}
 use Rattle.gw_profile.specs.Deterministic.{Name, Optional}
 use denote.Ref.{Bor}
 use Rattle.gw_profile.specs.declared.shape.FieldShape.{FieldShape}
@@ -95,6 +99,25 @@ module _ (f : Frame) (x : Name) (start rest new popped : List Frame) (come : Com
         ∙ ap (λ l. after_name (stack_on l nothing) x) (sym t.2);
     led = λ shape g k. led_split shape g (takes_behind (frame_forest f) g (stack_on rest nothing) x shape t.1 (subst (λ l. Takes (stack_on l nothing) x shape g) t.2 k));
   }
+
+-- a segment's frame on top takes the name again
+module _ (f : Frame) (due' : Card) (x : Name) (old new : List Frame) (n : ℕ) (long : n ≡ length old) (some : n ≡ 0 → ⊥) where
+  ends : f ≡ get_or old (n - 1) f → old ≡ take (n - 1) old ++ f ∷ []
+  ends is =
+      let within : n - 1 < length old = omega (arith, long, some) in
+      let one : n - 1 + 1 ≡ length old = omega (arith, long, some) in
+      sym (take_all (n - 1 + 1) old (omega (arith, one))) ∙ take_more old (n - 1) f within ∙ ap (λ g. take (n - 1) old ++ g ∷ []) (sym is)
+
+  ends_new : new ≡ set old (n - 1) ((record { node = f.node; due = due'; rest = f.rest })) → new ≡ take (n - 1) old ++ (record { node = f.node; due = due'; rest = f.rest }) ∷ []
+  ends_new is =
+      let within : n - 1 < length old = omega (arith, long, some) in
+      is ∙ sym (take_all (length old) (set old (n - 1) ((record { node = f.node; due = due'; rest = f.rest }))) (omega (arith, length-set old (n - 1) ((record { node = f.node; due = due'; rest = f.rest })))))
+      ∙ take-set_at old (n - 1) (length old) ((record { node = f.node; due = due'; rest = f.rest })) (omega (arith, long, some)) within
+
+  pub advance_again : (s : SegNode) (fields : Bor (List FieldShape)) → f ≡ get_or old (n - 1) f → f.node.now ≡ Seg s → fields.now ≡ s.fields.items → has_room f.due.max ≡ true → s.name ≡ x → due'.min ≡ f.due.min - 1 → due'.max ≡ less f.due.max → new ≡ set old (n - 1) (record { node = f.node; due = due'; rest = f.rest }) → Advances (stack_on old nothing) x (stack_on new nothing) (Some fields)
+  advance_again s fields is node_is fields_are room here min max put =
+      advance_taken f x old (take (n - 1) old) new old (comes_all old x) (ends is) fields
+      (tried_segment f due' x (take (n - 1) old) [] new s fields node_is fields_are room here min max (ends_new put))
 
 abbrev pub first_of_two : Option Name → Option Name → Option Name
 first_of_two None o = o

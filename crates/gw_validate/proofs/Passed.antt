@@ -1,7 +1,7 @@
 -- What a walk says of a list of names.
 use Rattle.std.specs.declared.vec.Vec.{Vec}
 use Rattle.std.specs.declared.alloc.Global.{Global}
-use Rattle.std.proofs.Common.{◌≡◌, ℕ, ◌+◌, ◌<◌, ◌≤◌, List, [], ◌∷◌, ◌++◌, Option, Some, None, refl, sym, ap, ◌∙◌, subst, arith, length, take, get_or, append_assoc, append-nil}
+use Rattle.std.proofs.Common.{◌≡◌, ℕ, ◌+◌, ◌<◌, ◌≤◌, List, [], ◌∷◌, ◌++◌, Option, Some, None, refl, sym, ap, ◌∙◌, subst, arith, length, take, map, get_or, append_assoc, append-nil}
 use Rattle.gw_profile.specs.Shapes.{Forest}
 use Rattle.gw_validate.specs.Cuts.{Fits}
 use Rattle.gw_validate.specs.Cuts.{Begins, IsShortest}
@@ -9,8 +9,7 @@ use Rattle.gw_validate.specs.own.Residual.{after_name}
 use Rattle.gw_validate.specs.own.Shortest.{head, shortest}
 use Rattle.gw_validate.specs.own.Answers.{Answers}
 use Rattle.gw_validate.specs.declared.walk.Answer.TheVariants as answer
-use Rattle.std.proofs.lemmas.List.{take_more}
-use Rattle.std.proofs.lemmas.Grind.{common_steps}
+use Rattle.std.proofs.lemmas.List.{take_more, take_all, length-map, get_or-map}
 use Rattle.gw_validate.specs.own.State.{Advances}
 use Rattle.gw_validate.proofs.Step.{fits_first, empty_fits}
 use Rattle.gw_validate.proofs.Exact.{Steps, step}
@@ -79,23 +78,26 @@ pub record Walked (f : Forest) (names : List Name) (shapes : List (Bor (List Fie
   pub left_is : left f names ≡ Some g
   pub takes : TakesAll f names shapes g
 
-module _ (f : Forest) (A : Name → Type 0) (wf : Determined f A) (names : List Name) (shapes : List (Bor (List FieldShape))) (i : ℕ) (g new : Forest) (walked : Walked f (take i names) shapes g) where
-  more : i < length names → take (i + 1) names ≡ take i names ++ get_or names i [] ∷ []
-  more lt = take_more names i [] lt
+module _ (f : Forest) (A : Name → Type 0) (wf : Determined f A) (named : ℕ → Name) (l : List ℕ) (shapes : List (Bor (List FieldShape))) (i : ℕ) (g new : Forest) (walked : Walked f (take i (map named l)) shapes g) (lt : i < length l) (x : Name) (is_named : x ≡ named (get_or l i 0)) where
+  within : i < length (map named l)
+  within = subst (λ n. i < n) (sym (length-map l named)) lt
 
-  pub out_of_order : i < length names → Advances g (get_or names i []) new None → Answers f names (answer.OutOfOrder i)
-  out_of_order lt go =
-      (lt, begins f A wf (take i names) g walked.left_is, λ b. stuck f A wf (take i names) g walked.left_is (get_or names i []) go (subst (Begins f) (more lt) b))
+  more : take (i + 1) (map named l) ≡ take i (map named l) ++ x ∷ []
+  more = take_more (map named l) i [] within ∙ ap (λ y. take i (map named l) ++ y ∷ []) (get_or-map named l i 0 [] lt ∙ sym is_named)
 
-  pub goes_on : i < length names → (s : Bor (List FieldShape)) (later : List (Bor (List FieldShape))) → later ≡ shapes ++ s ∷ [] → Advances g (get_or names i []) new (Some s) → Walked f (take (i + 1) names) later new
-  goes_on lt s later is go = record {
-    left_is = ap (left f) (more lt) ∙ left_more f (take i names) (get_or names i []) g walked.left_is ∙ go.0;
-    takes = subst (λ l. TakesAll f (take (i + 1) names) l new) (sym is) (subst (λ w. TakesAll f w (shapes ++ s ∷ []) new) (sym (more lt)) (takes_more f (take i names) shapes g (get_or names i []) s new walked.takes go.1));
+  pub out_of_order : Advances g x new None → Answers f (map named l) (answer.OutOfOrder i)
+  out_of_order go =
+      (within, begins f A wf (take i (map named l)) g walked.left_is, λ b. stuck f A wf (take i (map named l)) g walked.left_is x go (subst (Begins f) more b))
+
+  pub goes_on : (s : Bor (List FieldShape)) (later : List (Bor (List FieldShape))) → later ≡ shapes ++ s ∷ [] → Advances g x new (Some s) → Walked f (take (i + 1) (map named l)) later new
+  goes_on s later is go = record {
+    left_is = ap (left f) more ∙ left_more f (take i (map named l)) x g walked.left_is ∙ go.0;
+    takes = subst (λ k. TakesAll f (take (i + 1) (map named l)) k new) (sym is) (subst (λ w. TakesAll f w (shapes ++ s ∷ []) new) (sym more) (takes_more f (take i (map named l)) shapes g x s new walked.takes go.1));
   }
 
-pub at_end : (f g : Forest) (names : List Name) (shapes : List (Bor (List FieldShape))) (i : ℕ) → Walked f (take i names) shapes g → length names ≤ i → Walked f names shapes g
-at_end f g names shapes i w le =
-    subst (λ l. Walked f l shapes g) (let all : take i names ≡ names = grind (arith, common_steps) in all) w
+pub at_end : (f g : Forest) (named : ℕ → Name) (l : List ℕ) (shapes : List (Bor (List FieldShape))) (i : ℕ) → Walked f (take i (map named l)) shapes g → length l ≤ i → Walked f (map named l) shapes g
+at_end f g named l shapes i w le =
+    subst (λ k. Walked f k shapes g) (take_all i (map named l) (subst (λ n. n ≤ i) (sym (length-map l named)) le)) w
 
 pub at_start : (f g : Forest) (names : List Name) → g ≡ f → Walked f (take 0 names) [] g
 at_start f g names e = record { left_is = ap Some (sym e); takes = sym e }

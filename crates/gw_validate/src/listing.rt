@@ -1,5 +1,5 @@
 //! The segments of a message that a profile knows by their names.
-ghost use Rattle.std.specs.Prelude.{◌≡◌, IfOk, map};
+ghost use Rattle.std.specs.Prelude.{◌≡◌, IfOk};
 ghost use Rattle.gw_profile.specs.Seen.{forest};
 ghost use Rattle.gw_validate.specs.Conforming.{named, numbers};
 
@@ -32,19 +32,4 @@ pub(crate) fn listed(
         }
     }
     Ok(found)
-}
-
-/// The names of the segments of these numbers.
-pub(crate) fn names_of(
-    alloc: Global,
-    message: &Message,
-    numbers: &[usize],
-) -> Result<Vec<[u8; 3]>, AllocError>
-    ensures { IfOk result (λ names. names.items ≡ map (named message.now) numbers.now) }
-{
-    let mut names = Vec::with_capacity(alloc, numbers.len())?;
-    for number in numbers {
-        names.push(name_at(message, *number))?;
-    }
-    Ok(names)
 }

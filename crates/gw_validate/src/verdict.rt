@@ -13,7 +13,7 @@ ghost use Rattle.gw_validate.specs.own.Judging.{IsJudged, IsPlaced, IsFirst};
 use crate::breach::{Breach, Kind};
 use crate::build::build;
 use crate::fields::{Spot, of_kind};
-use crate::listing::{listed, name_at, names_of};
+use crate::listing::{listed, name_at};
 use crate::occurrences::Found;
 use crate::search::search;
 use crate::tree::Tree;
@@ -93,8 +93,7 @@ pub(crate) fn place_segments<'a>(
     requires { taken.now ≡ numbers (forest profile.now.nodes) message.now }
     ensures { IfOk result (IsPlaced (profile_value profile.now) message.now) }
 {
-    let names = names_of(alloc, message, taken)?;
-    match walk(alloc, profile.nodes(), &names)? {
+    match walk(alloc, profile.nodes(), message, taken)? {
         Answer::Fits(shapes) => Ok(Placed::Shapes(shapes)),
         Answer::OutOfOrder(i) => {
             let number = taken[i];

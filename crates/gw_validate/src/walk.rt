@@ -1,5 +1,5 @@
 //! A walk over a profile by one name of look-ahead.
-ghost use Rattle.std.specs.Prelude.{◌≡◌, IfOk, ◌-◌};
+ghost use Rattle.std.specs.Prelude.{◌≡◌, IfOk, ◌-◌, map, Some, IfSome, IsNone};
 ghost use Rattle.std.specs.Str.{bytes_eq};
 ghost use Rattle.gw_validate.specs.own.Residual.{has_room, less, after_name};
 ghost use Rattle.gw_profile.specs.Seen.{forest};
@@ -8,7 +8,10 @@ ghost use Rattle.gw_profile.specs.Shapes.{nothing};
 ghost use Rattle.gw_validate.specs.own.Shortest.{head, several, shortest, shortest_node};
 ghost use Rattle.gw_validate.specs.own.Answers.{Answers};
 ghost use Rattle.gw_profile.specs.Deterministic.{Determined, NoName};
+ghost use Rattle.gw_validate.specs.Conforming.{named};
 
+use crate::listing::name_at;
+use gw_er7::Message;
 use gw_profile::{Card, FieldShape, Node};
 use std::alloc::{AllocError, Global};
 
@@ -20,7 +23,7 @@ pub(crate) struct Frame<'a> {
     pub(crate) rest: &'a [Node],
 }
 
-/// What a list of names is.
+/// What the names of a list of segments are.
 #[derive(Drop)]
 pub(crate) enum Answer<'a> {
     /// It fits, and the segment of each name has these fields.
@@ -160,12 +163,41 @@ fn take_frame<'a>(
     }
 }
 
-// Goes on by one name, if the names so far and this one begin a list that fits: the fields of its segment.
-pub(crate) fn advance<'a>(
+// Takes the name where the node on top is a segment of this name that may still come: its fields.
+#[inline(always)]
+fn take_again<'a>(stack: &mut Vec<Frame<'a>>, name: [u8; 3]) -> Option<&'a [FieldShape]>
+    ensures taken { IfSome result (λ fields. Advances (stack_on stack.old.items nothing) name
+        (stack_on stack.new.items nothing) (Some fields)) }
+    ensures kept { IsNone result → stack.new.items ≡ stack.old.items }
+{
+    let depth = stack.len();
+    if depth == 0 {
+        return None;
+    }
+    let frame = stack[depth - 1];
+    let Node::Seg(segment) = frame.node else {
+        return None;
+    };
+    if !same_name(segment.name, name) {
+        return None;
+    }
+    if !has_room(frame.due) {
+        return None;
+    }
+    stack[depth - 1] = Frame {
+        due: less_one(frame.due),
+        ..frame
+    };
+    Some(&segment.fields)
+}
+
+// Goes on by one name, as `advance` does, whatever is on top.
+fn advance_on<'a>(
     stack: &mut Vec<Frame<'a>>,
     name: [u8; 3],
 ) -> Result<Option<&'a [FieldShape]>, AllocError>
-    ensures { IfOk result (λ fields. Advances (stack_on stack.old.items nothing) name (stack_on stack.new.items nothing) fields) }
+    ensures { IfOk result (Advances (stack_on stack.old.items nothing) name
+        (stack_on stack.new.items nothing)) }
 {
     while let Some(frame) = stack.pop() {
         match take_frame(stack, frame, name)? {
@@ -175,6 +207,21 @@ pub(crate) fn advance<'a>(
         }
     }
     Ok(None)
+}
+
+// Goes on by one name, if the names so far and this one begin a list that fits: the fields of its segment.
+#[inline(always)]
+pub(crate) fn advance<'a>(
+    stack: &mut Vec<Frame<'a>>,
+    name: [u8; 3],
+) -> Result<Option<&'a [FieldShape]>, AllocError>
+    ensures { IfOk result (Advances (stack_on stack.old.items nothing) name
+        (stack_on stack.new.items nothing)) }
+{
+    if let Some(fields) = take_again(stack, name) {
+        return Ok(Some(fields));
+    }
+    advance_on(stack, name)
 }
 
 // The first name of the fewest occurrences that are still due.
@@ -235,19 +282,20 @@ pub(crate) fn start(alloc: Global, nodes: &[Node]) -> Result<Vec<Frame<'_>>, All
     Ok(stack)
 }
 
-/// What the list of names is.
+/// What the names of these segments of the message are.
 pub(crate) fn walk<'a>(
     alloc: Global,
     nodes: &'a [Node],
-    names: &[[u8; 3]],
+    message: &Message,
+    taken: &[usize],
 ) -> Result<Answer<'a>, AllocError>
     requires { Determined (forest nodes.now) NoName }
-    ensures { IfOk result (λ answer. Answers (forest nodes.now) names.now answer) }
+    ensures { IfOk result (Answers (forest nodes.now) (map (named message.now) taken.now)) }
 {
     let mut stack = start(alloc, nodes)?;
-    let mut shapes = Vec::with_capacity(alloc, names.len())?;
-    for (i, name) in names.iter().enumerate() {
-        let Some(fields) = advance(&mut stack, *name)? else {
+    let mut shapes = Vec::with_capacity(alloc, taken.len())?;
+    for (i, number) in taken.iter().enumerate() {
+        let Some(fields) = advance(&mut stack, name_at(message, *number))? else {
             return Ok(Answer::OutOfOrder(i));
         };
         shapes.push(fields)?;

@@ -1,5 +1,5 @@
 use Rattle.gw_validate.proofs.Joined.{advance_taken, advance_stuck, advance_passed, comes_all}
-use Rattle.gw_validate.proofs.walk.advance.Goals as goal
+use Rattle.gw_validate.proofs.walk.advance_on.Goals as goal
 
 pub returns-in-Taken : goal.returns-in-Taken
 returns-in-Taken c =

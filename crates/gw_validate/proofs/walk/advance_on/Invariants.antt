@@ -1,6 +1,6 @@
 use Rattle.std.proofs.Common.{vec_len}
 use Rattle.gw_validate.proofs.Joined.{Comes}
-use Rattle.gw_validate.proofs.walk.advance.Given as goal
+use Rattle.gw_validate.proofs.walk.advance_on.Given as goal
 
 abbrev pub invariant-loop-frame : goal.invariant-loop-frame
 invariant-loop-frame l = Comes l.initial.stack.items l.stack.items l.name
