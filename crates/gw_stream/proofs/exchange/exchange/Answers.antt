@@ -1,6 +1,6 @@
 use Rattle.std.proofs.Common.{rules, ◌≡◌, ⊎_elim}
 use Rattle.gw_er7.specs.declared.fault.ReadFault.TheVariants.{Memory}
-use Rattle.gw_stream.specs.Answers.{unreadable}
+use Rattle.gw_stream.specs.Answers.{readable, unreadable}
 use Rattle.gw_stream.proofs.exchange.exchange.Goals as goal
 
 pub returns : goal.returns
@@ -12,3 +12,7 @@ returns g c =
       lawful = c.settle-in_default.ensures.lawful;
       begun = c.settle-in_default.ensures.begun _ is_read;
     }
+
+pub returns-in-Ok-clause-answer : goal.returns-in-Ok-clause-answer
+returns-in-Ok-clause-answer g c =
+    c.settle.ensures.answer _ (readable _ c.segment_count.ensures.message c.in-Ok.ensures.ok) c.in_ok-header-in-Ok.ensures
