@@ -23,7 +23,7 @@ fn close(starts: &[SegmentHead], texts: &mut Texts)
 /// How many segments a usual message has.
 const USUAL_SEGMENTS: usize = 8;
 
-/// For how many segments memory is taken at once, where there was memory for so many.
+/// How many segments memory is asked for, where there was memory for `capacity` of them.
 fn more(capacity: usize) -> usize
     ensures { 0 < result }
 {

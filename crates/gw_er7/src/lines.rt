@@ -63,7 +63,7 @@ fn line_from(bytes: &[u8], from: usize) -> usize
     at
 }
 
-// The same where a line end stands behind these.
+// As `line_from`, where some byte behind the first `from` ends the line.
 fn line_within(bytes: &[u8], from: usize) -> usize
     requires before { FailsTo is_line_end bytes.now from }
     requires there { position_or_len is_line_end bytes.now < length bytes.now }
