@@ -17,6 +17,7 @@ mod explain;
 mod files;
 mod gateway;
 mod hands;
+mod heap;
 mod heard;
 mod hints;
 mod identity;
@@ -42,6 +43,7 @@ use arguments::{parse, process_words};
 use clap::ArgMatches;
 use ended::Ended;
 use gateway::{gateway, send};
+use heap::keep_freed;
 use program::command;
 use report::{print_unread_words, print_words, status_of};
 use serve::serving;
@@ -87,7 +89,10 @@ fn done<
         Some(("gateway", words)) => gateway(rt, words),
         Some(("tell", words)) => send(rt, words, output),
         Some(("serve", words)) => serving(rt, words, input, output, errors),
-        _ => command(rt, words, &mut input, output, errors),
+        _ => {
+            keep_freed(rt);
+            command(rt, words, &mut input, output, errors)
+        }
     }
 }
 
