@@ -9,7 +9,7 @@ use std::io::{self, BufRead, BufReader};
 use std::path::{Path, PathBuf};
 use std::process::{Command, ExitCode};
 use std::{env, fs};
-use taken::{anonymous, run, Taken};
+use taken::{resident, run, Resident, Taken};
 
 const STAMP: &str = "20240102030406";
 
@@ -32,8 +32,8 @@ struct Row {
     messages: usize,
     program: Taken,
     forms: [Taken; 3],
-    /// The anonymous memory of the program and of `slices`, in kB.
-    own: [i64; 2],
+    /// The memory of the program, and of each form.
+    memory: [Resident; 4],
 }
 
 impl Row {
@@ -98,10 +98,10 @@ impl Bench {
             return Err(io::Error::other("no round was run"));
         };
         let forms = [owned, lending, slices];
-        let own = [
-            anonymous(&mut self.command(&profile, None), &input, &answers[0])?,
-            anonymous(&mut self.command(&profile, Some(FORMS[2])), &input, &answers[3])?,
-        ];
+        let mut memory = [Resident::default(); 4];
+        for ((form, answers), memory) in all.iter().zip(&answers).zip(&mut memory) {
+            *memory = resident(&mut self.command(&profile, *form), &input, answers)?;
+        }
         let mut messages = 0;
         for ((form, taken), other) in FORMS.iter().zip(forms).zip(&answers[1..]) {
             let same = same_answers(&answers[0], other)?;
@@ -119,7 +119,7 @@ impl Bench {
             messages,
             program,
             forms,
-            own,
+            memory,
         })
     }
 
@@ -136,17 +136,17 @@ impl Bench {
                 row.messages,
                 row.speed(row.program),
                 row.messages as f64 / row.program.seconds,
-                row.program.kilobytes,
-                row.own[0],
+                row.memory[0].all,
+                row.memory[0].anonymous,
             );
             for form in row.forms {
                 print!(" {:.2} |", form.seconds / row.program.seconds);
             }
-            for form in row.forms {
-                let times = row.program.kilobytes as f64 / form.kilobytes as f64;
-                print!(" {times:.2} |");
+            let [program, forms @ ..] = row.memory;
+            for form in forms {
+                print!(" {:.2} |", program.all as f64 / form.all as f64);
             }
-            println!(" {:.2} |", row.own[0] as f64 / row.own[1] as f64);
+            println!(" {:.2} |", program.anonymous as f64 / forms[2].anonymous as f64);
         }
         Ok(())
     }
@@ -171,10 +171,10 @@ impl Bench {
                 "| {} | {:.1} | {} | {:.2} | {:.1} | {} | {:.2} |",
                 row.name,
                 row.speed(row.program),
-                row.program.kilobytes,
+                row.memory[0].all,
                 honest.speed(honest.program) / row.speed(row.program),
                 row.speed(slices),
-                slices.kilobytes,
+                row.memory[3].all,
                 honest.speed(honest.forms[2]) / row.speed(slices),
             );
         }

@@ -57,21 +57,35 @@ pub fn run(command: &mut Command, input: &Path, output: &Path) -> io::Result<Tak
     end(&child, begun)
 }
 
-/// The most anonymous memory of a run, in kB, as far as a look each half millisecond sees it: what the run itself takes, without the pages of the
-/// program's file and of its libraries.
-pub fn anonymous(command: &mut Command, input: &Path, output: &Path) -> io::Result<i64> {
+/// Resident memory, in kB.
+#[derive(Clone, Copy, Default)]
+pub struct Resident {
+    pub all: i64,
+    /// What the run itself takes, without the pages of the program's file and of its libraries.
+    pub anonymous: i64,
+}
+
+/// The number of a line of `/proc/PID/smaps_rollup`, in kB.
+fn rolled_up(text: &str, name: &str) -> i64 {
+    let line = text.lines().find_map(|line| line.strip_prefix(name));
+    let number = line.and_then(|line| line.split_whitespace().next());
+    number.and_then(|it| it.parse().ok()).unwrap_or(0)
+}
+
+/// The most resident and the most anonymous memory of a run, as far as a look each half millisecond sees them. A look counts pages.
+/// `wait4` may be off by some hundred kB, since Linux adds up each processor's share in steps of 32 pages.
+pub fn resident(command: &mut Command, input: &Path, output: &Path) -> io::Result<Resident> {
     let mut child = command
         .stdin(File::open(input)?)
         .stdout(File::create(output)?)
         .stderr(Stdio::null())
         .spawn()?;
-    let status = format!("/proc/{}/status", child.id());
-    let mut most = 0;
+    let looks = format!("/proc/{}/smaps_rollup", child.id());
+    let mut most = Resident::default();
     while child.try_wait()?.is_none() {
-        let text = fs::read_to_string(&status).unwrap_or_default();
-        let line = text.lines().find_map(|line| line.strip_prefix("RssAnon:"));
-        let number = line.and_then(|line| line.split_whitespace().next());
-        most = most.max(number.and_then(|it| it.parse().ok()).unwrap_or(0));
+        let text = fs::read_to_string(&looks).unwrap_or_default();
+        most.all = most.all.max(rolled_up(&text, "Rss:"));
+        most.anonymous = most.anonymous.max(rolled_up(&text, "Anonymous:"));
         thread::sleep(Duration::from_micros(500));
     }
     Ok(most)
