@@ -32,6 +32,8 @@ struct Row {
     messages: usize,
     program: Taken,
     forms: [Taken; 3],
+    /// How many times as fast as each form the program is: the median of the rounds, since a machine's speed changes from one to the next.
+    ratios: [f64; 3],
     /// The memory of the program, and of each form.
     memory: [Resident; 4],
 }
@@ -62,6 +64,11 @@ fn same_answers(one: &Path, other: &Path) -> io::Result<Option<usize>> {
     }
 }
 
+fn median(mut numbers: Vec<f64>) -> f64 {
+    numbers.sort_by(f64::total_cmp);
+    numbers[numbers.len() / 2]
+}
+
 impl Bench {
     /// The program, or a form of the baseline, over streams of a profile.
     fn command(&self, profile: &Path, form: Option<&str>) -> Command {
@@ -70,7 +77,10 @@ impl Bench {
             Some(_) => Command::new(&self.baseline),
         };
         match form {
-            None => command.arg("validate").arg(profile).args(["--stamp", STAMP]),
+            None => command
+                .arg("validate")
+                .arg(profile)
+                .args(["--stamp", STAMP]),
             Some(form) => command.arg(profile).args([STAMP, form]),
         };
         command
@@ -86,12 +96,18 @@ impl Bench {
             self.traffic.join(format!("{name}.{form}"))
         });
         let mut least: [Option<Taken>; 4] = [None; 4];
+        let mut ratios = [(); 3].map(|()| Vec::new());
         for _ in 0..self.rounds.max(1) {
-            for ((form, answers), least) in all.iter().zip(&answers).zip(&mut least) {
+            let mut seconds = [0.0; 4];
+            for (which, (form, answers)) in all.iter().zip(&answers).enumerate() {
                 let taken = run(&mut self.command(&profile, *form), &input, answers)?;
-                if least.map_or(true, |least| taken.seconds < least.seconds) {
-                    *least = Some(taken);
+                seconds[which] = taken.seconds;
+                if least[which].map_or(true, |least| taken.seconds < least.seconds) {
+                    least[which] = Some(taken);
                 }
+            }
+            for (ratios, form) in ratios.iter_mut().zip(&seconds[1..]) {
+                ratios.push(form / seconds[0]);
             }
         }
         let [Some(program), Some(owned), Some(lending), Some(slices)] = least else {
@@ -119,6 +135,7 @@ impl Bench {
             messages,
             program,
             forms,
+            ratios: ratios.map(median),
             memory,
         })
     }
@@ -139,30 +156,53 @@ impl Bench {
                 row.memory[0].all,
                 row.memory[0].anonymous,
             );
-            for form in row.forms {
-                print!(" {:.2} |", form.seconds / row.program.seconds);
+            for ratio in row.ratios {
+                print!(" {ratio:.2} |");
             }
             let [program, forms @ ..] = row.memory;
             for form in forms {
                 print!(" {:.2} |", program.all as f64 / form.all as f64);
             }
-            println!(" {:.2} |", program.anonymous as f64 / forms[2].anonymous as f64);
+            let [.., slices] = forms;
+            println!(
+                " {:.2} |",
+                program.anonymous as f64 / slices.anonymous as f64
+            );
         }
         Ok(())
+    }
+
+    /// How many times as long a byte of a stream takes as one of an honest stream: the median of rounds that run both.
+    fn times(
+        &self,
+        profile: &str,
+        form: Option<&str>,
+        honest: &str,
+        name: &str,
+    ) -> io::Result<f64> {
+        let profile = self.profiles.join(profile);
+        let answers = self.traffic.join("times");
+        let a_byte = |name| -> io::Result<f64> {
+            let input = self.traffic.join(name);
+            let taken = run(&mut self.command(&profile, form), &input, &answers)?;
+            Ok(taken.seconds / fs::metadata(input)?.len() as f64)
+        };
+        let mut ratios = Vec::new();
+        for _ in 0..self.rounds.max(1) {
+            let honest = a_byte(honest)?;
+            ratios.push(a_byte(name)? / honest);
+        }
+        Ok(median(ratios))
     }
 
     /// Hostile streams against an honest one whose contents have the same size, per byte.
     fn print_hostile(
         &self,
-        honest: &'static str,
+        honest: &str,
         profile: &str,
         streams: &[&'static str],
     ) -> io::Result<()> {
-        let honest = self.row(honest, profile)?;
-        println!(
-            "| Stream | Program MB/s | peak kB | times {} | Slices MB/s | peak kB | times {} |",
-            honest.name, honest.name
-        );
+        println!("| Stream | Program MB/s | peak kB | times {honest} | Slices MB/s | peak kB | times {honest} |");
         println!("|---|---|---|---|---|---|---|");
         for name in streams {
             let row = self.row(name, profile)?;
@@ -172,10 +212,10 @@ impl Bench {
                 row.name,
                 row.speed(row.program),
                 row.memory[0].all,
-                honest.speed(honest.program) / row.speed(row.program),
+                self.times(profile, None, honest, name)?,
                 row.speed(slices),
                 row.memory[3].all,
-                honest.speed(honest.forms[2]) / row.speed(slices),
+                self.times(profile, Some(FORMS[2]), honest, name)?,
             );
         }
         Ok(())
