@@ -86,6 +86,27 @@ impl Bench {
         command
     }
 
+    /// The medians of the peaks of as many runs as there are rounds. Linux loads a program at another address each time, and maps more or fewer pages of its file.
+    fn memory(
+        &self,
+        profile: &Path,
+        form: Option<&str>,
+        input: &Path,
+        answers: &Path,
+    ) -> io::Result<Resident> {
+        let mut peaks = Vec::new();
+        for _ in 0..self.rounds.max(1) {
+            peaks.push(resident(&mut self.command(profile, form), input, answers)?);
+        }
+        let of = |part: fn(&Resident) -> i64| {
+            median(peaks.iter().map(|peak| part(peak) as f64).collect()) as i64
+        };
+        Ok(Resident {
+            all: of(|peak| peak.all),
+            anonymous: of(|peak| peak.anonymous),
+        })
+    }
+
     /// Each round runs all of them once, so that a slow phase of the machine meets each.
     fn row(&self, name: &'static str, profile: &str) -> io::Result<Row> {
         let profile = self.profiles.join(profile);
@@ -116,7 +137,7 @@ impl Bench {
         let forms = [owned, lending, slices];
         let mut memory = [Resident::default(); 4];
         for ((form, answers), memory) in all.iter().zip(&answers).zip(&mut memory) {
-            *memory = resident(&mut self.command(&profile, *form), &input, answers)?;
+            *memory = self.memory(&profile, *form, &input, answers)?;
         }
         let mut messages = 0;
         for ((form, taken), other) in FORMS.iter().zip(forms).zip(&answers[1..]) {

@@ -148,7 +148,7 @@ module _ {S : Type 0} (Settles : S → S → ℕ → Option Message → Outcome 
 
   -- no number passes what a machine can hold: a block that is given now is not the last that a run can have
   pub gathers_room : (mid : S) (here there : Place) (content : List ℕ) (after : Option (List ℕ)) (g : List ℕ) (c : Counts)
-      → Progress Settles old mid left reads here before after g c → Goes here there (content ∷ []) → c.answered < 65536000000
+      → Progress Settles old mid left reads here before after g c → Goes here there (content ∷ []) → c.answered < 16384000000
   gathers_room mid here there content after g c p goes =
       let given = map content_of p.done in
       let few = walk_few left reads there (given ++ content ∷ []) (goes left reads given p.walks) in

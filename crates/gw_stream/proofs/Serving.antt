@@ -132,7 +132,7 @@ module _ (plan : PlanValue) (stamp : List ℕ) (left : Option (List ℕ)) (reads
 
   -- no number passes what a machine can hold
   pub serves_room : (here there : Place) (content : List ℕ) (k0 k : Known) (c : Counts) → ServesSoFar plan stamp left reads here k0 k c
-      → Goes here there (content ∷ []) → c.answered < 65536000000
+      → Goes here there (content ∷ []) → c.answered < 16384000000
   serves_room here there content k0 k c p goes =
       let few = walk_few left reads there (p.given ++ content ∷ []) (goes left reads p.given p.walks) in
       let both : length (p.given ++ content ∷ []) ≡ length p.given + 1 = length-append p.given (content ∷ []) in

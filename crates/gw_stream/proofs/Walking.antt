@@ -41,7 +41,7 @@ has_few stream blocks Overlong p =
     omega arith
 
 -- each block takes a byte of those that were read
-pub walk_few : (left : Option (List ℕ)) (reads : ℕ) (here : Place) (given : List (List ℕ)) → Walks left reads here given → length given ≤ 65536000000
+pub walk_few : (left : Option (List ℕ)) (reads : ℕ) (here : Place) (given : List (List ℕ)) → Walks left reads here given → length given ≤ 16384000000
 walk_few left reads here given w =
     let blocks = has_few w.taken (given ++ here.blocks.decoder.waiting) here.blocks.decoder.tail w.stands in
     let both : length (given ++ here.blocks.decoder.waiting) ≡ length given + length here.blocks.decoder.waiting =
@@ -56,7 +56,7 @@ counts_more : (times before between after : ℕ) → ReadTimes times before betw
 counts_more times before between after many one small = let there = many (omega arith) in let more = one (omega arith) in omega arith
 
 -- a piece is read and taken
-pub goes_read : (here there : Place) (piece : List ℕ) → Consumes here.left there.left piece → 0 < length piece → length piece ≤ 65536
+pub goes_read : (here there : Place) (piece : List ℕ) → Consumes here.left there.left piece → 0 < length piece → length piece ≤ 16384
     → here.blocks.turns < 1000000
     → IsFed piece here.blocks.decoder there.blocks.decoder → there.blocks.turns ≡ here.blocks.turns + 1 → ReadTimes 1 here.reads there.reads
     → Goes here there []

@@ -26,7 +26,7 @@ pub record Walks (left : Option (List ℕ)) (reads : ℕ) (here : Place) (given 
   pub taken : List ℕ
   pub takes : Consumes left here.left taken
   pub many : here.blocks.turns ≤ length taken
-  pub few : length taken ≤ here.blocks.turns * 65536
+  pub few : length taken ≤ here.blocks.turns * 16384
   pub most : here.blocks.turns ≤ 1000000
   pub stands : Stands taken given here.blocks.decoder
   pub counted : ReadTimes here.blocks.turns reads here.reads

@@ -12,7 +12,7 @@ use std::alloc::{AllocError, Global};
 const MAX_READS: usize = 1_000_000;
 
 /// The most bytes of a read.
-const READ_SIZE: usize = 65_536;
+const READ_SIZE: usize = 16_384;
 
 /// Reads a stream, and gives its blocks one by one.
 #[derive(Drop)]

@@ -45,7 +45,7 @@ use ended::Ended;
 use gateway::{gateway, send};
 use heap::keep_freed;
 use program::command;
-use report::{print_unread_words, print_words, status_of};
+use report::{USAGE, print_unread_words, print_words, status_of};
 use serve::serving;
 use std::fs::File;
 use std::io::{Eprint, IsTerminal, Print, Read, Write};
@@ -57,6 +57,11 @@ use std::sync::Wait;
 use std::thread::Threads;
 use std::time::Clock;
 use streams::open_closed;
+
+/// Whether a command takes the network, or threads.
+fn is_networked(name: &str) -> bool {
+    matches!(name, "gateway" | "serve" | "tell")
+}
 
 /// Does the command of these words, and answers the status: 0 done, 1 refused, 2 usage, 3 a fault of a device, a frame or a run, 4 allocation failure.
 fn done<
@@ -86,13 +91,15 @@ fn done<
 ) -> Result<u8, Ended<'a>> {
     let mut input = input;
     match words.subcommand() {
-        Some(("gateway", words)) => gateway(rt, words),
-        Some(("tell", words)) => send(rt, words, output),
-        Some(("serve", words)) => serving(rt, words, input, output, errors),
-        _ => {
+        // The compiler puts functions in the order of their first calls. This call comes first, so a run's functions lie together, in few pages.
+        Some((name, _)) if !is_networked(name) => {
             keep_freed(rt);
             command(rt, words, &mut input, output, errors)
         }
+        Some(("gateway", words)) => gateway(rt, words),
+        Some(("tell", words)) => send(rt, words, output),
+        Some(("serve", words)) => serving(rt, words, input, output, errors),
+        _ => Ok(USAGE),
     }
 }
 

@@ -15,4 +15,4 @@ invariant-each g l =
     }
 
 abbrev pub decreases-each : goal.decreases-each
-decreases-each g l = (65536000000 - l.counts.answered) + (1000000 - l.blocks.turns)
+decreases-each g l = (16384000000 - l.counts.answered) + (1000000 - l.blocks.turns)
