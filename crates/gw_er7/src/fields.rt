@@ -91,6 +91,8 @@ fn has_mark(delimiters: Delimiters, bytes: &[u8]) -> bool
 }
 
 // As `plain_from`, of a value that may be a document.
+#[cold]
+#[inline(never)]
 fn plain_behind(classes: &ByteClasses, bytes: &[u8], from: usize) -> usize
     requires within { from ≤ length bytes.now }
     requires before { IsPlainTo classes.now bytes.now from }
@@ -108,8 +110,7 @@ fn plain_behind(classes: &ByteClasses, bytes: &[u8], from: usize) -> usize
 }
 
 /// As `plain_from` from the first byte on, of a value in a long segment.
-#[cold]
-#[inline(never)]
+#[inline(always)]
 fn plain_far(classes: &ByteClasses, bytes: &[u8]) -> usize
     ensures { result ≡ position_or_len (λ b. is_mark classes.now b) bytes.now }
 {
@@ -218,7 +219,8 @@ fn push_other(
     Ok(())
 }
 
-/// Reads the raw value at a place, which lies among the message bytes. Its first `plain` bytes stand for themselves: where all do, it is its own text.
+/// Reads the raw value at a place, which lies among the message bytes, of a segment that is long or isn't.
+/// Its first `plain` bytes stand for themselves: where all do, it is its own text.
 #[inline(always)]
 fn push_value(
     taken: &mut SegmentTexts<'_>,
@@ -227,6 +229,7 @@ fn push_value(
     at: usize,
     raw: &[u8],
     plain: usize,
+    is_long: bool,
 ) -> Result<(), AllocError>
     requires inside { AreInside (bytes_of taken.old) taken.old.spans }
     requires lies { Lies taken.old.content.now at raw.now }
@@ -259,7 +262,7 @@ fn push_value(
         from: at,
         len: raw.len(),
     };
-    taken.spans.push(span)?;
+    taken.spans.push_in(span, is_long)?;
     Ok(())
 }
 
@@ -285,7 +288,7 @@ fn take_other<'a>(
     ensures entries { IfOk result (TakesOne classes.now (numbers place) bytes.now (taken_by taken.old) (taken_by taken.new)) }
 {
     let (raw, behind) = cut_at_separator(classes, bytes);
-    push_value(taken, classes, place, at, raw, plain)?;
+    push_value(taken, classes, place, at, raw, plain, true)?;
     Ok(behind)
 }
 
@@ -318,11 +321,11 @@ fn take_values(
     loop {
         let plain = plain_in(classes, rest, is_long);
         if plain >= rest.len() {
-            push_value(taken, classes, place, here, rest, plain)?;
+            push_value(taken, classes, place, here, rest, plain, is_long)?;
             return Ok(());
         }
         if is_separator(classes, rest[plain]) {
-            push_value(taken, classes, place, here, &rest[..plain], plain)?;
+            push_value(taken, classes, place, here, &rest[..plain], plain, is_long)?;
             place = next_place(classes, place, rest[plain]);
             here += plain + 1;
             rest = &rest[plain + 1..];

@@ -404,6 +404,18 @@ impl<N: Width, L: Store> Spans<N, L> {
         self.narrow.push(N::narrowed(span))?;
         Ok(())
     }
+
+    /// As `push`, of a text in a segment that is long or isn't. In a long one the numbers of places may be large, so the wider spans are tried first.
+    #[inline(always)]
+    pub(crate) fn push_in(&mut self, span: TextSpan, is_long: bool) -> Result<(), AllocError>
+        ensures ok { OnOk result (self.new ≡ self.old ++ span ∷ []) }
+        ensures err { OnErr result (self.new ≡ self.old) }
+    {
+        if is_long && self.narrow.is_empty() && self.others.len() > 0 {
+            return self.others.push(span);
+        }
+        self.push(span)
+    }
 }
 
 impl<N: Width, L: Store> Store for Spans<N, L> {

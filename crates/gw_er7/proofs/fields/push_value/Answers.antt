@@ -17,7 +17,7 @@ returns-clause-kept c =
     let raw = c.args.raw.now in
     let l : TextSpan = record { place = c.args.place; from = c.args.at; len = length raw } in
     let lies = lies_grown old.content.now old.others.items c.args.at raw c.requires.lies in
-    let put = held_lies (bytes_of old) c.args.at raw old.spans c.push.new.self l lies c.in_ok-push.ensures.ok refl refl in
+    let put = held_lies (bytes_of old) c.args.at raw old.spans c.push_in.new.self l lies c.in_ok-push_in.ensures.ok refl refl in
     rw put (take-append_seam (held_in old) (record { place = c.args.place; text = raw } ∷ []))
 
 pub returns-clause-entries : goal.returns-clause-entries
@@ -27,7 +27,7 @@ returns-clause-entries c =
     let raw = c.args.raw.now in
     let l : TextSpan = record { place = c.args.place; from = c.args.at; len = length raw } in
     let lies = lies_grown old.content.now old.others.items c.args.at raw c.requires.lies in
-    let put = held_lies (bytes_of old) c.args.at raw old.spans c.push.new.self l lies c.in_ok-push.ensures.ok refl refl in
+    let put = held_lies (bytes_of old) c.args.at raw old.spans c.push_in.new.self l lies c.in_ok-push_in.ensures.ok refl refl in
     let there : 0 < length raw = search rules in
     let itself : canon d raw ≡ raw = plain_self d c.args.plain raw c.requires.plain (omega arith) in
     ap entries_of put ∙ map-append entry_of (held_in old) (record { place = c.args.place; text = raw } ∷ [])
