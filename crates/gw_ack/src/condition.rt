@@ -4,6 +4,7 @@ ghost use Rattle.gw_er7.specs.Text.{IsCanonical};
 ghost use Rattle.gw_ack.specs.Conditions.{condition, named, said, location_for};
 
 use gw_er7::is_segment_name;
+use itoa::Buffer;
 use std::alloc::{AllocError, Global};
 
 /// The text of a condition code (HL7 table 0357).
@@ -39,8 +40,7 @@ pub(crate) fn said(alloc: Global, number: usize) -> Result<Vec<u8>, AllocError>
     if number == 0 {
         return Ok(Vec::new(alloc));
     }
-    let text = format!(in alloc; "{number}")?;
-    Ok(text.into_bytes())
+    Vec::from_slice(alloc, Buffer::new().format(number).as_bytes())
 }
 
 /// Where the reason of a rejection was found.
