@@ -15,7 +15,7 @@ use Rattle.gw_validate.specs.own.Residual.{less, append, has_room, when, pass, o
 use Rattle.gw_profile.specs.Seen.{forest}
 use Rattle.gw_profile.specs.Nodes.{card_of}
 use Rattle.gw_validate.specs.own.Shortest.{head, several, shortest, shortest_node}
-use Rattle.gw_validate.specs.own.State.{due_forest, frame_forest, stack_on, Tries}
+use Rattle.gw_validate.specs.own.State.{due_forest, frame_forest, stack_on, Tries, TriesNode}
 use Rattle.gw_validate.proofs.Walking.{append_assoc_forest, stack_on-push, node_due, tried_segment}
 use Rattle.gw_profile.specs.Deterministic.{Name, Optional}
 use denote.Ref.{Bor}
@@ -118,6 +118,35 @@ module _ (f : Frame) (due' : Card) (x : Name) (old new : List Frame) (n : ℕ) (
   advance_again s fields is node_is fields_are room here min max put =
       advance_taken f x old (take (n - 1) old) new old (comes_all old x) (ends is) fields
       (tried_segment f due' x (take (n - 1) old) [] new s fields node_is fields_are room here min max (ends_new put))
+
+-- a frame on top that is spent, and below it a group that begins once more with the name
+module _ (f outer : Frame) (x : Name) (old new : List Frame) (n : ℕ) (long : n ≡ length old) (two : 1 < n) where
+  parted : f ≡ get_or old (n - 1) f → outer ≡ get_or old (n - 2) outer → old ≡ (take (n - 2) old ++ outer ∷ []) ++ f ∷ []
+  parted top below =
+      let within : n - 2 < length old = omega (arith, long, two) in
+      let one : n - 2 + 1 ≡ n - 1 = omega (arith, two) in
+      ends f f.due x old old n long (λ e. omega arith) top
+      ∙ ap (λ l. l ++ f ∷ []) (ap (λ k. take k old) (sym one) ∙ take_more old (n - 2) outer within ∙ ap (λ g. take (n - 2) old ++ g ∷ []) (sym below))
+
+  parted_new : (a b : Frame) → new ≡ set (set old (n - 2) a) (n - 1) b → new ≡ take (n - 2) old ++ a ∷ b ∷ []
+  parted_new a b put =
+      let within : n - 2 < length old = omega (arith, long, two) in
+      let one : n - 2 + 1 ≡ n - 1 = omega (arith, two) in
+      let same : n ≡ length (set old (n - 2) a) = omega (arith, long, length-set old (n - 2) a) in
+      let all : n ≡ length (set (set old (n - 2) a) (n - 1) b) = omega (arith, same, length-set (set old (n - 2) a) (n - 1) b) in
+      put ∙ sym (take_all n (set (set old (n - 2) a) (n - 1) b) (omega (arith, all)))
+      ∙ take-set_at (set old (n - 2) a) (n - 1) n b (omega (arith, two)) (omega (arith, same, two))
+      ∙ ap (λ l. l ++ b ∷ []) (take-set_at old (n - 2) (n - 1) a (sym one) within)
+      ∙ append_assoc (take (n - 2) old) (a ∷ []) (b ∷ [])
+
+  pub advance_anew : (a b : Frame) (fields : Bor (List FieldShape)) → f ≡ get_or old (n - 1) f → outer ≡ get_or old (n - 2) outer
+      → ((stack : List Frame) → Tries (frame_forest f) x stack stack Passed) → ((stack : List Frame) → TriesNode outer x stack (stack ++ a ∷ b ∷ []) (Taken fields))
+      → new ≡ set (set old (n - 2) a) (n - 1) b → Advances (stack_on old nothing) x (stack_on new nothing) (Some fields)
+  advance_anew a b fields top below passed taken put =
+      let front = take (n - 2) old in
+      let come = advance_passed f x old (front ++ outer ∷ []) (front ++ outer ∷ []) old (comes_all old x) (parted top below) (passed (front ++ outer ∷ [])) in
+      subst (λ l. Advances (stack_on old nothing) x (stack_on l nothing) (Some fields)) (sym (parted_new a b put))
+      (advance_taken outer x old front (front ++ a ∷ b ∷ []) (front ++ outer ∷ []) come refl fields (taken front))
 
 abbrev pub first_of_two : Option Name → Option Name → Option Name
 first_of_two None o = o

@@ -17,3 +17,6 @@ name_tells a b = by (bytes_eq a b) refl
 
 pub names_equal : (a b : Name) → bytes_eq a b ≡ true → a ≡ b
 names_equal a b e = (bytes_eq-Decides a b).0 e
+
+pub names_differ : (a b : Name) → bytes_eq a b ≡ false → a ≡ b → ⊥
+names_differ a b e = not_from_Decides _ (bytes_eq-Decides a b) e

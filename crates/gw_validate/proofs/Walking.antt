@@ -1,5 +1,5 @@
 -- The walk's frames stand for what is left of the forest.
-use Rattle.std.proofs.Common.{◌≡◌, ℕ, zero, suc, ◌+◌, ◌-◌, ◌<◌, ◌≤◌, inl, inr, Bool, true, false, List, [], ◌∷◌, ◌++◌, Option, Some, None, refl, sym, ap, ◌∙◌, subst, arith, length, map, drop, get_or, drop-cons}
+use Rattle.std.proofs.Common.{◌≡◌, ℕ, zero, suc, ◌+◌, ◌-◌, ◌<◌, ◌≤◌, inl, inr, Bool, true, false, List, [], ◌∷◌, ◌++◌, Option, Some, None, refl, sym, ap, ◌∙◌, subst, arith, length, map, drop, get_or, drop-cons, append_assoc}
 use Rattle.std.proofs.lemmas.Grind.{common_steps}
 use Rattle.gw_validate.proofs.Names.{name_tells, equal_names}
 use mathlib.Core.Former.{Count}
@@ -237,3 +237,40 @@ begins_group g x roomy =
 
 pub forest_group : (g : declared_group.GroupNode) (rest : Forest) → node_forest (Group g) rest ≡ group (value_of g) (forest g.nodes.items) rest
 forest_group g rest = node_due (Group g) rest ∙ due_group g g.card rest
+
+-- a segment that may be left out, of another name
+pub passes_segment : (s : declared_segment.SegNode) (node : Node) (rest : List Node) (x : Name) (stack : List Frame) → node ≡ Seg s → s.card.min ≡ 0 → (s.name ≡ x → ⊥) → NodeTried s.card.min (due_forest node s.card (forest rest)) (forest rest) x stack stack Passed
+passes_segment s node rest x stack is none other = (
+  none,
+  ap (λ n. after_name (due_forest n s.card (forest rest)) x) is ∙ passed_segment s s.card (forest rest) x other ∙ ap (λ m. pass m (after_name (forest rest) x)) none,
+  refl,
+)
+
+-- a frame that has no room, and may be left out
+pub spent : (n : Node) (due : Card) (rest : Forest) (x : Name) → has_room due.max ≡ false → due.min ≡ 0 → after_name (due_forest n due rest) x ≡ after_name rest x
+spent (Seg s) due rest x full none = rw (full, none) refl
+spent (Group' lb u c shape row) due rest x full none = rw (full, none) refl
+
+pub tries_spent : (f : Frame) (x : Name) (stack : List Frame) → has_room f.due.max ≡ false → f.due.min ≡ 0 → (after_name (forest f.rest.now) x ≡ None) × Optional (forest f.rest.now) → Tries (frame_forest f) x stack stack Passed
+tries_spent f x stack full none passed =
+    tried_behind f f.due x stack stack stack Passed (none, spent f.node.now f.due (forest f.rest.now) x full none, refl) (passed.0, passed.1, refl)
+
+-- a group that comes once more, and begins with a segment of this name
+module _ (f : Frame) (due' : Card) (x : Name) (old : List Frame) (node : Bor Node) (due'' : Card) (rest : Bor (List Node)) (s : declared_segment.SegNode) (fields : Bor (List FieldShape)) where
+  abbrev Outer : Frame
+  Outer = record { node = f.node; due = due'; rest = f.rest }
+
+  abbrev Inner : Frame
+  Inner = record { node = node; due = due''; rest = rest }
+
+  begins_nodes : node.now ≡ Seg s → fields.now ≡ s.fields.items → has_room s.card.max ≡ true → s.name ≡ x → due''.min ≡ s.card.min - 1 → due''.max ≡ less s.card.max → Tries (forest (node.now ∷ rest.now)) x (old ++ Outer ∷ []) ((old ++ Outer ∷ []) ++ Inner ∷ []) (Taken fields)
+  begins_nodes is fields_are room here min max =
+      let one = tried_segment (record { node = node; due = s.card; rest = rest }) due'' x (old ++ Outer ∷ []) [] ((old ++ Outer ∷ []) ++ Inner ∷ []) s fields is fields_are room here min max refl in
+      tried_at node.now s.card rest.now (node.now ∷ rest.now) x (old ++ Outer ∷ []) (old ++ Outer ∷ []) ((old ++ Outer ∷ []) ++ Inner ∷ []) 0 (omega arith) refl (sym (ap card_of is)) refl (reaches_all (node.now ∷ rest.now) x) (Taken fields) refl (λ e. absurd (cc)) one
+
+  pub tries_begun : (g : declared_group.GroupNode) → f.node.now ≡ Group g → g.nodes.items ≡ node.now ∷ rest.now → has_room f.due.max ≡ true → due'.min ≡ f.due.min - 1 → due'.max ≡ less f.due.max
+      → node.now ≡ Seg s → fields.now ≡ s.fields.items → has_room s.card.max ≡ true → s.name ≡ x → due''.min ≡ s.card.min - 1 → due''.max ≡ less s.card.max
+      → TriesNode f x old (old ++ Outer ∷ Inner ∷ []) (Taken fields)
+  tries_begun g group_is items room_f min_f max_f is fields_are room here min max =
+      subst (λ new. TriesNode f x old new (Taken fields)) (append_assoc old (Outer ∷ []) (Inner ∷ []))
+      (tried_group f due' x old (old ++ Outer ∷ []) ((old ++ Outer ∷ []) ++ Inner ∷ []) g (node.now ∷ rest.now) fields group_is (sym items) room_f min_f max_f refl (begins_nodes is fields_are room here min max))

@@ -1,13 +1,15 @@
 //! A walk over a profile by one name of look-ahead.
-ghost use Rattle.std.specs.Prelude.{◌≡◌, IfOk, ◌-◌, map, Some, IfSome, IsNone};
+ghost use Rattle.std.specs.Prelude.{◌≡◌, ◌++◌, ◌∷◌, [], IfOk, ◌-◌, map, true, List, None, Some, IfSome, IsNone};
 ghost use Rattle.std.specs.Str.{bytes_eq};
 ghost use Rattle.gw_validate.specs.own.Residual.{has_room, less, after_name};
+ghost use Rattle.gw_validate.specs.declared.walk.Frame.{Frame};
+ghost use Rattle.gw_validate.specs.declared.walk.Step.TheVariants.{Taken, Passed};
 ghost use Rattle.gw_profile.specs.Seen.{forest};
 ghost use Rattle.gw_validate.specs.own.State.{Tries, TriesNode, left_out, frame_forest, stack_on, Advances};
 ghost use Rattle.gw_profile.specs.Shapes.{nothing};
 ghost use Rattle.gw_validate.specs.own.Shortest.{head, several, shortest, shortest_node};
 ghost use Rattle.gw_validate.specs.own.Answers.{Answers};
-ghost use Rattle.gw_profile.specs.Deterministic.{Determined, NoName};
+ghost use Rattle.gw_profile.specs.Deterministic.{Determined, NoName, Optional};
 ghost use Rattle.gw_validate.specs.Conforming.{named};
 
 use crate::listing::name_at;
@@ -163,6 +165,108 @@ fn take_frame<'a>(
     }
 }
 
+// Whether these nodes are segments of other names that may be left out.
+#[inline(always)]
+fn are_passed(nodes: &[Node], name: [u8; 3]) -> bool
+    ensures { result ≡ true → (after_name (forest nodes.now) name ≡ None) × Optional (forest nodes.now) }
+{
+    for node in nodes {
+        let Node::Seg(segment) = node else {
+            return false;
+        };
+        if segment.card.min > 0 {
+            return false;
+        }
+        if same_name(segment.name, name) {
+            return false;
+        }
+    }
+    true
+}
+
+// Whether nothing of the frame can come with this name, and all of it may be left out.
+#[inline(always)]
+fn is_spent(frame: Frame, name: [u8; 3]) -> bool
+    ensures { result ≡ true → (stack : List Frame) → Tries (frame_forest frame.entry) name stack stack Passed }
+{
+    if has_room(frame.due) {
+        return false;
+    }
+    if frame.due.min > 0 {
+        return false;
+    }
+    are_passed(frame.rest, name)
+}
+
+// What stands in place of a frame whose group came once more, by its first segment, which has these fields.
+#[derive(Clone, Copy)]
+struct Begun<'a> {
+    outer: Frame<'a>,
+    inner: Frame<'a>,
+    fields: &'a [FieldShape],
+}
+
+// Takes the name where the frame's group may come once more, and its first node is a segment of this name.
+#[inline(always)]
+fn begin_again<'a>(frame: Frame<'a>, name: [u8; 3]) -> Option<Begun<'a>>
+    ensures { IfSome result (λ begun. (stack : List Frame) → TriesNode frame.entry name stack (stack ++ begun.outer ∷ begun.inner ∷ []) (Taken begun.fields)) }
+{
+    if !has_room(frame.due) {
+        return None;
+    }
+    let Node::Group(group) = frame.node else {
+        return None;
+    };
+    let Some((node, rest)) = group.nodes.split_first() else {
+        return None;
+    };
+    let Node::Seg(segment) = node else {
+        return None;
+    };
+    if !same_name(segment.name, name) {
+        return None;
+    }
+    if !has_room(segment.card) {
+        return None;
+    }
+    Some(Begun {
+        outer: Frame {
+            due: less_one(frame.due),
+            ..frame
+        },
+        inner: Frame {
+            node,
+            due: less_one(segment.card),
+            rest,
+        },
+        fields: &segment.fields,
+    })
+}
+
+// Takes the name where nothing else can come on top, and the group below comes once more by this name: the fields of its first segment.
+#[inline(always)]
+fn take_anew<'a>(stack: &mut Vec<Frame<'a>>, name: [u8; 3]) -> Option<&'a [FieldShape]>
+    ensures taken { IfSome result (λ fields. Advances (stack_on stack.old.items nothing) name
+        (stack_on stack.new.items nothing) (Some fields)) }
+    ensures kept { IsNone result → stack.new.items ≡ stack.old.items }
+{
+    let depth = stack.len();
+    if depth < 2 {
+        return None;
+    }
+    let top = stack[depth - 1];
+    if !is_spent(top, name) {
+        return None;
+    }
+    let below = stack[depth - 2];
+    let Some(begun) = begin_again(below, name) else {
+        return None;
+    };
+    stack[depth - 2] = begun.outer;
+    stack[depth - 1] = begun.inner;
+    Some(begun.fields)
+}
+
 // Takes the name where the node on top is a segment of this name that may still come: its fields.
 #[inline(always)]
 fn take_again<'a>(stack: &mut Vec<Frame<'a>>, name: [u8; 3]) -> Option<&'a [FieldShape]>
@@ -219,6 +323,9 @@ pub(crate) fn advance<'a>(
         (stack_on stack.new.items nothing)) }
 {
     if let Some(fields) = take_again(stack, name) {
+        return Ok(Some(fields));
+    }
+    if let Some(fields) = take_anew(stack, name) {
         return Ok(Some(fields));
     }
     advance_on(stack, name)
