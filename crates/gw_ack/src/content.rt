@@ -158,11 +158,10 @@ fn write_breach(content: &mut Vec<u8>, breach: &Breach) -> Result<(), AllocError
     let comp = said(alloc, breach.comp)?;
     let sub = said(alloc, breach.sub)?;
     let code = breach.code();
-    let number = format!(in alloc; "{code}")?;
     write_err(
         content,
         &[&segment, &sequence, &field, &rep, &comp, &sub],
-        number.as_bytes(),
+        Buffer::new().format(code).as_bytes(),
         code,
     )
 }
@@ -177,8 +176,9 @@ fn write_reason(content: &mut Vec<u8>, reply: Reply) -> Result<(), AllocError>
         Reply::Accept => Ok(()),
         Reply::Refuse(breach) => write_breach(content, &breach),
         Reply::Reject(code) => {
-            let number = format!(in *content.allocator(); "{code}")?;
-            write_err(content, location_for(code), number.as_bytes(), code)
+            let mut digits = Buffer::new();
+            let number = digits.format(code).as_bytes();
+            write_err(content, location_for(code), number, code)
         }
     }
 }
