@@ -1,13 +1,16 @@
 //! The least breach of a segment's shape.
-ghost use Rattle.std.specs.Prelude.{◌≡◌, ℕ, ◌<◌, ◌∷◌, [], option_map, IfNone, false, true, length, ◌-◌, ◌+◌, ◌≤◌, IfSome, Some, None, if◌then◌else◌, map, MatchOption};
+ghost use Rattle.std.specs.Prelude.{◌≡◌, ℕ, ◌<◌, ◌≤◌, ◌+◌, ◌-◌, ◌∷◌, [], false, true, map, if◌then◌else◌};
+ghost use Rattle.std.specs.Prelude.{Some, None, option_map, IfNone, IfSome, MatchOption};
 ghost use Rattle.std.specs.List.{AllByRecursion};
 ghost use Rattle.std.specs.FinMap as texts;
 ghost use Rattle.gw_er7.specs.Presence.{FieldAt, RepAt, CompAt, IsStart};
 ghost use Rattle.gw_profile.specs.Seen.{sub, comp as comp_value, field as field_value, items_of, profile_value};
 ghost use Rattle.gw_validate.specs.declared.breach.Kind.TheVariants.{MissingValue};
 ghost use Rattle.gw_validate.specs.Kinds.{number_of};
-ghost use Rattle.gw_validate.specs.Breaches.{is_required, is_forbidden, is_long, is_unlisted, is_null, SubBreach, CompBreach, RepBreach, RepsBreach, FieldBreach, SegmentBreach, Counted};
-ghost use Rattle.gw_validate.specs.own.Least.{Least, CompRises, FieldRises, ShapeRises, Rises, comp_key, rep_key, field_key, segment_key, is_full, SubsBreach, CompsBreach};
+ghost use Rattle.gw_validate.specs.Breaches.{is_required, is_forbidden, is_long, is_unlisted, is_null, Counted};
+ghost use Rattle.gw_validate.specs.Breaches.{SubBreach, CompBreach, RepBreach, RepsBreach, FieldBreach, SegmentBreach};
+ghost use Rattle.gw_validate.specs.own.Least.{Least, SubsBreach, CompsBreach, is_full};
+ghost use Rattle.gw_validate.specs.own.Least.{CompRises, FieldRises, ShapeRises, Rises, comp_key, rep_key, field_key, segment_key};
 ghost use Rattle.gw_validate.specs.own.Walk.{IsBefore, IsOnly, IsValueAt, IsNextRep, IsNoRep, IsCount, IsShort};
 
 use crate::breach::Kind;
@@ -192,7 +195,8 @@ fn leaves_breach(
     requires there { CompAt segment.now.at comp.field comp.rep comp.comp }
     requires start { IsStart (comp.field ∷ comp.rep ∷ comp.comp ∷ 0 ∷ []) (texts.entries segment.now.at) near.old }
     requires value { IsValueAt (texts.entries segment.now.at) near.old found }
-    ensures least { Least (SubsBreach (profile_value profile.now) segment.now.at comp.field comp.rep comp.comp (map sub subs.now)) (option_map comp_key result) }
+    ensures least { Least (SubsBreach (profile_value profile.now) segment.now.at comp.field comp.rep comp.comp (map sub subs.now))
+        (option_map comp_key result) }
     ensures near { IfNone result (IsBefore (comp.field ∷ comp.rep ∷ (comp.comp + 1) ∷ 0 ∷ []) (texts.entries segment.now.at) near.new) }
 {
     // (its clause says what every segment keeps)

@@ -63,7 +63,7 @@ fn next_of(alloc: Global, nodes: &[Node], names: &[[u8; 3]]) -> Result<Vec<[u8; 
     ensures { IfOk result (λ found. AreNext (forest nodes.now) names.now found.items) }
 {
     let mut stack = start(alloc, nodes)?;
-    for (i, name) in names.iter().enumerate() {
+    for name in names {
         let Some(_) = advance(&mut stack, *name)? else {
             return Ok(Vec::new(alloc));
         };

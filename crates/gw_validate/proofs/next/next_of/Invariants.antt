@@ -5,5 +5,5 @@ use Rattle.gw_validate.specs.own.State.{stack_on}
 use Rattle.gw_validate.proofs.Runs.{left}
 use Rattle.gw_validate.proofs.next.next_of.Given as goal
 
-abbrev pub invariant-loop-i : goal.invariant-loop-i
-invariant-loop-i l = left (forest l.nodes) (take l.i l.names) ≡ Some (stack_on l.stack.items nothing)
+abbrev pub invariant-loop-name : goal.invariant-loop-name
+invariant-loop-name l = left (forest l.nodes) (take l.name-index l.names) ≡ Some (stack_on l.stack.items nothing)
