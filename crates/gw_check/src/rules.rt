@@ -132,8 +132,10 @@ fn look(
     target: &Profile,
     map: &Map,
 ) -> Result<Examined, AllocError>
-    ensures found { IfOk result (λ e. seen_failures e.findings.found.items ≡ all_failures (profile_value source.now) (profile_value target.now) (map_value map.now)) }
-    ensures unread { IfOk result (λ e. fields_at e.findings.used.unread.items ≡ unread (profile_value source.now) (profile_value target.now) (map_value map.now)) }
+    ensures found { IfOk result (λ e. seen_failures e.findings.found.items
+        ≡ all_failures (profile_value source.now) (profile_value target.now) (map_value map.now)) }
+    ensures unread { IfOk result (λ e. fields_at e.findings.used.unread.items
+        ≡ unread (profile_value source.now) (profile_value target.now) (map_value map.now)) }
     ensures made { IfOk result (λ e. AreMade (profile_value source.now) (profile_value target.now) (map_value map.now) e.findings.used.sites.items) }
     ensures items { IfOk result (UnlabelledIfAllowed (profile_value source.now) (profile_value target.now) (map_value map.now)) }
 {
@@ -200,7 +202,8 @@ pub fn examine(
     }
 }
 
-/// The map with its profiles, where no rule fails; else the map back, with the least rule that fails at its least line, or allocation failure. What acceptance means is a law of `gw_interp`: each message that conforms to the source has one translation, and that conforms to the target.
+/// The map with its profiles, where no rule fails; else the map back, with the least rule that fails at its least line, or allocation failure.
+/// What acceptance means is a law of `gw_interp`: each message that conforms to the source has one translation, and that conforms to the target.
 pub fn check(
     alloc: Global,
     source: Arc<Profile>,

@@ -288,6 +288,7 @@ fn take_other<'a>(
     ensures entries { IfOk result (TakesOne classes.now (numbers place) bytes.now (taken_by taken.old) (taken_by taken.new)) }
 {
     let (raw, behind) = cut_at_separator(classes, bytes);
+    // (as in a long segment, whichever it is: that differs in time alone)
     push_value(taken, classes, place, at, raw, plain, true)?;
     Ok(behind)
 }

@@ -11,7 +11,8 @@ use crate::rule::{LeafPlace, Rule};
 use indexmap::{IndexMap, IndexSet};
 use std::alloc::{AllocError, Global};
 
-/// What is open: whether the language is the second, whether a row would belong to a table, and how many groups and flats are open. `has_item`: there was an item.
+/// What is open: whether the language is the second, whether a row would belong to a table, and how many groups and flats are open.
+/// `has_item`: there was an item.
 /// `hollow`: the innermost open part is a flat that has no item so far. `led`: a leaf stands right above, which another may follow.
 #[derive(Clone, Copy, Drop)]
 pub(crate) struct OpenParts {
@@ -312,7 +313,8 @@ fn put_row(
     seconds: &[&[u8]],
 ) -> Result<(), AllocError>
     requires { spec.is_among first.now (spec.wide_firsts (spec.last_table (map wide_table tables.old.entries)).rows) ≡ false }
-    ensures { OnOk result (map wide_table tables.new.entries ≡ spec.at_last (spec.with_row (columns.wide_row_of first.now (now_all seconds.now))) (map wide_table tables.old.entries)) }
+    ensures { OnOk result (map wide_table tables.new.entries
+        ≡ spec.at_last (spec.with_row (columns.wide_row_of first.now (now_all seconds.now))) (map wide_table tables.old.entries)) }
 {
     match tables.last_mut() {
         None => Ok(()),
