@@ -28,6 +28,17 @@ module _ (P : ℕ → Bool) (bytes : List ℕ) (n : ℕ) (fails : FailsTo P byte
   pub fails_all : n ≤ length bytes → length bytes ≤ n → n ≡ position_or_len P bytes
   fails_all le ge = sym (position_or_len_is P bytes n 0 le fails (λ lt. absurd (omega (arith, ge, lt))))
 
+-- nor do the next ones, one behind the other
+module _ (P : ℕ → Bool) (bytes : List ℕ) (n : ℕ) (fails : FailsTo P bytes n) (first : P (get_or bytes n 0) ≡ false) (second : P (get_or bytes (n + 1) 0) ≡ false) where
+  pub fails_two : FailsTo P bytes (n + 2)
+  fails_two = let e : n + 1 + 1 ≡ n + 2 = omega arith in subst (FailsTo P bytes) e (fails_more P bytes (n + 1) (fails_more P bytes n fails first) second)
+
+  pub fails_three : P (get_or bytes (n + 2) 0) ≡ false → FailsTo P bytes (n + 3)
+  fails_three third = let e : n + 2 + 1 ≡ n + 3 = omega arith in subst (FailsTo P bytes) e (fails_more P bytes (n + 2) fails_two third)
+
+  pub fails_four : P (get_or bytes (n + 2) 0) ≡ false → P (get_or bytes (n + 3) 0) ≡ false → FailsTo P bytes (n + 4)
+  fails_four third fourth = let e : n + 3 + 1 ≡ n + 4 = omega arith in subst (FailsTo P bytes) e (fails_more P bytes (n + 3) (fails_three third) fourth)
+
 -- nor does it pass up to a later place
 module _ (P : ℕ → Bool) (bytes : List ℕ) (at m : ℕ) (fails : FailsTo P bytes at) where
   pub fails_on : list_any P (take (m - at) (drop at bytes)) ≡ false → m ≤ length bytes → FailsTo P bytes m

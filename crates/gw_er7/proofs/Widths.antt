@@ -1,10 +1,12 @@
 -- Spans of two widths, which say the same.
-use Rattle.std.proofs.Common.{◌≡◌, ℕ, ◌<◌, Bool, List, [], ◌++◌, length, map, sym, ap, subst, ◌∙◌, append-nil, arith, inl, inr}
+use Rattle.std.proofs.Common.{◌≡◌, ℕ, ◌<◌, ◌≤◌, ◌+◌, ◌-◌, take, drop, Bool, List, [], ◌++◌, length, map, sym, ap, subst, ◌∙◌, append-nil, arith, inl, inr}
+use Rattle.std.proofs.lemmas.List.{take-append-le, drop-take, length-map, take-map, drop-map}
 use Rattle.std.specs.List.{AllZip}
 use Rattle.std.specs.Ordering.{is_lt}
 use Rattle.gw_er7.specs.declared.spans.TextSpan.{TextSpan}
 use Rattle.gw_er7.specs.Message.{numbers}
-use Rattle.gw_er7.specs.own.Spans.{all_said, AreAlike, AreSortedFrom}
+use Rattle.gw_er7.specs.View.{between}
+use Rattle.gw_er7.specs.own.Spans.{all_said, AreAlike, AreOf, AreSortedFrom}
 use Rattle.gw_er7.proofs.Lying.{sorted_from_map}
 use Rattle.gw_er7.proofs.Sames.{zip_maps}
 use Rattle.gw_er7.proofs.Sorted.{order}
@@ -28,3 +30,13 @@ module _ {N : Type 0} (said : N → TextSpan) where
   alike_sorted k ns ms ws all (inr e) some view is =
       subst (λ (ls : List TextSpan). AreSortedFrom (λ l. l.place) k ls (all_said said ms ws)) (sym (all_narrow ns ws e) ∙ view)
       (subst (λ (ls : List TextSpan). AreSortedFrom (λ l. l.place) k (map said ns) ls) (sym (all_narrow ms ws e)) (sorted_from_map said (λ l. l.place) k ns ms is))
+
+  -- some of the narrow ones
+  pub narrow_part : (from to : ℕ) (ns xs : List N) (ws all : List TextSpan) → xs ≡ ns → to ≤ length ns → from ≤ to → all_said said ns ws ≡ all → AreOf said from to (take (to - from) (drop from xs)) all
+  narrow_part from to ns xs ws all e le rising view =
+      let long : from + (to - from) ≡ to = omega (arith, rising) in
+      let cut : take (to - from) (drop from xs) ≡ between from to ns =
+      sym (drop-take from (to - from) xs) ∙ ap (λ (n : ℕ). drop from (take n xs)) long ∙ ap (between from to) e in
+      let seen : between from to (map said ns) ≡ between from to all =
+      ap (drop from) (sym (take-append-le to (map said ns) ws (omega (arith, le, length-map ns said)))) ∙ ap (between from to) view in
+      inr (ap (map said) cut ∙ sym (drop-map said from (take to ns)) ∙ ap (drop from) (sym (take-map said to ns)) ∙ seen)

@@ -1,4 +1,5 @@
 -- The program's own words: no public contract rests on them.
+pub mod Borrowed
 pub mod Classes
 pub mod Scanned
 pub mod Separators

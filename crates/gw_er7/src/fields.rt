@@ -56,6 +56,22 @@ fn plain_from(classes: &ByteClasses, bytes: &[u8], from: usize) -> usize
     ensures { result ≡ position_or_len (λ b. is_mark classes.now b) bytes.now }
 {
     let mut at = from;
+    // (where the bytes end is tested once for four of them)
+    while bytes.len() - at >= 4 {
+        if is_mark(classes, bytes[at]) {
+            return at;
+        }
+        if is_mark(classes, bytes[at + 1]) {
+            return at + 1;
+        }
+        if is_mark(classes, bytes[at + 2]) {
+            return at + 2;
+        }
+        if is_mark(classes, bytes[at + 3]) {
+            return at + 3;
+        }
+        at += 4;
+    }
     while at < bytes.len() {
         if is_mark(classes, bytes[at]) {
             return at;
@@ -172,7 +188,8 @@ pub(crate) struct SegmentTexts<'a> {
 impl<'a> SegmentTexts<'a> {
     ghost use Rattle.std.specs.Prelude.{[]};
 
-    /// No text, with capacity for the usual number of texts in the message bytes: one for every six bytes.
+    /// No text, with capacity for the usual number of texts in the message bytes: one for every six bytes, in steps of 32.
+    /// (Then the memory that one message gives back fits the next, whose length differs.)
     pub(crate) fn with_room(
         alloc: Global,
         content: &'a [u8],
@@ -181,7 +198,7 @@ impl<'a> SegmentTexts<'a> {
         ensures none { IfOk result (λ t. held_in t ≡ []) }
         ensures content { IfOk result (λ t. t.content.now ≡ content.now) }
     {
-        let spans = MessageSpans::with_room(alloc, content.len() / 6)?;
+        let spans = MessageSpans::with_room(alloc, content.len() / 192 * 32 + 32)?;
         Ok(SegmentTexts {
             spans,
             content,

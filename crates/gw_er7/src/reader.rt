@@ -104,7 +104,8 @@ fn take_message(alloc: Global, content: &[u8]) -> Result<MessageParts, ReadFault
     let header = checked.header;
     let classes = ByteClasses::of(checked.delimiters);
     let mut taken = SegmentTexts::with_room(alloc, content)?;
-    let mut starts = Vec::with_capacity(alloc, content.len() / 64)?;
+    // (in steps too: room for a segment each 64 bytes)
+    let mut starts = Vec::with_capacity(alloc, content.len() / 1024 * 16 + 16)?;
     take_segment(&mut starts, &mut taken, &classes, 3, 9, header)?;
     let at = header.at + header.bytes.len() + 1;
     let count = take_others(&mut starts, &mut taken, &classes, at, header.behind)?;

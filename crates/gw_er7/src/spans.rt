@@ -370,7 +370,8 @@ impl<N: Width, L: Store> Model for Spans<N, L> {
 }
 
 impl<N: Width, L: Store> Spans<N, L> {
-    ghost use Rattle.std.specs.Prelude.{◌≡◌, ◌++◌, ◌∷◌, [], OnOk, OnErr};
+    ghost use Rattle.std.specs.Prelude.{◌≡◌, ◌≤◌, ◌++◌, ◌∷◌, [], OnOk, OnErr};
+    ghost use Rattle.gw_er7.specs.own.Spans.{AreOf};
 
     /// Puts a span behind the others that doesn't fit in the narrow width: none is narrow from now on.
     fn push_wide(&mut self, span: TextSpan) -> Result<(), AllocError>
@@ -386,6 +387,18 @@ impl<N: Width, L: Store> Spans<N, L> {
         self.others = others;
         self.narrow = Vec::new(self.alloc);
         Ok(())
+    }
+
+    /// The spans from one number up to another, where all are narrow; else none.
+    #[inline(always)]
+    pub(crate) fn narrow_between(&self, from: usize, to: usize) -> &[N]
+        requires { from ≤ to }
+        ensures { AreOf N.said from to result.now self.now }
+    {
+        if to > self.narrow.len() {
+            return &[];
+        }
+        &self.narrow[from..to]
     }
 
     /// Puts a span behind the others, whatever its width.
@@ -512,8 +525,8 @@ impl<N: Width, L: Store> Store for Spans<N, L> {
     }
 }
 
+/// The narrowest span of a message, in 12 bytes.
+pub(crate) type MessageSpan = NarrowSpan<u8, u32>;
+
 /// The spans of a message: all in 12 bytes, in 24, or in 48.
-pub(crate) type MessageSpans = Spans<
-    NarrowSpan<u8, u32>,
-    Spans<NarrowSpan<u32, u32>, Vec<TextSpan>>,
->;
+pub(crate) type MessageSpans = Spans<MessageSpan, Spans<NarrowSpan<u32, u32>, Vec<TextSpan>>>;

@@ -1,13 +1,15 @@
 //! Borrowed texts at places.
 
-use crate::spans::{MessageSpans, Store};
+use crate::spans::{MessageSpan, MessageSpans, Store, Width};
 use crate::view::Value;
 use std::marker::Model;
 
 /// Borrowed texts at places: the spans from one number up to another, and the bytes in which their texts lie.
+/// Where the spans are narrow, they are kept as a slice too: so one is found by one test.
 #[derive(Drop)]
 pub(crate) struct Values<'a> {
     spans: &'a MessageSpans,
+    narrow: &'a [MessageSpan],
     bytes: &'a [u8],
     from: usize,
     to: usize,
@@ -16,7 +18,8 @@ pub(crate) struct Values<'a> {
 impl<'a> Model for Values<'a> {
     ghost use Rattle.std.specs.Prelude.{List};
     ghost use Rattle.std.specs.Coded.{coded_list};
-    ghost use Rattle.gw_er7.specs.View.{Held, held_code, held, between, AreWithin};
+    ghost use Rattle.gw_er7.specs.View.{Held, held_code, held, between};
+    ghost use Rattle.gw_er7.specs.own.Borrowed.{AreBorrowed};
 
     ghost Value = { List Held };
 
@@ -24,12 +27,13 @@ impl<'a> Model for Values<'a> {
 
     ghost view = { λ v. between v.from v.to (held v.bytes.now v.spans.now) };
 
-    ghost invariant = { λ v. AreWithin v.bytes.now v.from v.to v.spans.now };
+    ghost invariant = { λ v. AreBorrowed v.bytes.now v.from v.to v.narrow.now v.spans.now };
 }
 
 impl<'a> Values<'a> {
-    ghost use Rattle.std.specs.Prelude.{◌≡◌, ◌<◌, length, slice_index_or};
+    ghost use Rattle.std.specs.Prelude.{◌≡◌, ◌<◌, ◌≤◌, length, slice_index_or, MatchOption};
     ghost use Rattle.gw_er7.specs.View.{Held, held, between, AreWithin};
+    ghost use Rattle.gw_er7.specs.own.Borrowed.{IsNumbered};
 
     /// The texts that the spans from one number up to another say of these bytes.
     pub(crate) fn of(spans: &'a MessageSpans, bytes: &'a [u8], from: usize, to: usize) -> Values<'a>
@@ -38,6 +42,7 @@ impl<'a> Values<'a> {
     {
         Values {
             spans,
+            narrow: spans.narrow_between(from, to),
             bytes,
             from,
             to,
@@ -50,6 +55,7 @@ impl<'a> Values<'a> {
     {
         Values {
             spans: self.spans,
+            narrow: self.narrow,
             bytes: self.bytes,
             from: self.from,
             to: self.to,
@@ -75,5 +81,23 @@ impl<'a> Values<'a> {
             place: span.place,
             text: &self.bytes[span.from..span.from + span.len],
         }
+    }
+
+    /// The text of this number, from 0, with its place, where there is one.
+    #[inline(always)]
+    pub(crate) fn get(&self, i: usize) -> Option<Value<'a>>
+        ensures { MatchOption result (length self.now ≤ i) (λ value. IsNumbered self.now i (record { place = value.place; text = value.text.now })) }
+    {
+        if i < self.narrow.len() {
+            let span = self.narrow[i].widened();
+            return Some(Value {
+                place: span.place,
+                text: &self.bytes[span.from..span.from + span.len],
+            });
+        }
+        if i >= self.len() {
+            return None;
+        }
+        Some(self.at(i))
     }
 }

@@ -37,7 +37,7 @@ pub struct Value<'a> {
 }
 
 impl<'a> Segment<'a> {
-    ghost use Rattle.std.specs.Prelude.{◌≡◌, ◌↔◌, ◌+◌, ◌-◌, ◌*◌, ◌^◌, ◌<◌, [], ◌∷◌, ◌++◌, Some, length, min, slice_get, IsTrue, OnOk};
+    ghost use Rattle.std.specs.Prelude.{◌≡◌, ◌↔◌, ◌+◌, ◌-◌, ◌*◌, ◌^◌, ◌<◌, ◌≤◌, [], ◌∷◌, ◌++◌, Some, IfSome, MatchOption, length, min, slice_get, IsTrue, OnOk};
     ghost use Rattle.std.specs.FinMap as texts;
     ghost use Rattle.gw_er7.specs.Message.{numbers, text_at, IsSegment};
     ghost use Rattle.gw_er7.specs.Presence.{SubAt, CompAt, RepAt, FieldAt, IsLast, IsStart};
@@ -157,6 +157,18 @@ impl<'a> Segment<'a> {
         ensures { slice_get (texts.entries self.now.at) i ≡ Some (numbers result.place, result.text.now) }
     {
         self.values.at(i)
+    }
+
+    /// The text of this number, from 0, in order of place; `None` where there are no more. It takes no memory, and a constant time.
+    #[inline(always)]
+    pub fn get_value(&self, i: usize) -> Option<Value<'a>>
+        ensures there { MatchOption result (length (texts.entries self.now.at) ≤ i) (λ value. i < length (texts.entries self.now.at)) }
+        ensures value { IfSome result (λ value. slice_get (texts.entries self.now.at) i ≡ Some (numbers value.place, value.text.now)) }
+    {
+        match self.values.get(i) {
+            Some(value) => Some(value),
+            None => None,
+        }
     }
 
     /// How many texts stand at places below this one: the number of the first text from there on.

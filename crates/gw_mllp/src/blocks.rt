@@ -36,6 +36,31 @@ fn behind_start(bytes: &[u8]) -> Option<&[u8]>
     Some(inner)
 }
 
+/// The memory of a content is taken in such steps: then what one block gives back fits another, whose length differs.
+const STEP: usize = 256;
+
+/// Appends bytes to a content. Memory for a short one is taken as it needs, else in steps.
+fn append(content: &mut Vec<u8>, bytes: &[u8]) -> Result<(), AllocError>
+    ensures ok { OnOk result (content.new.items ≡ content.old.items ++ bytes.now) }
+    ensures err { OnErr result (content.new.items ≡ content.old.items) }
+{
+    let len = content.len().saturating_add(bytes.len());
+    if len >= STEP {
+        let room = (len / STEP * STEP).saturating_add(STEP);
+        content.reserve(room.saturating_sub(content.len()))?;
+    }
+    content.extend_from_slice(bytes)
+}
+
+/// The content of a block that began and hasn't ended yet.
+fn open_content(alloc: Global, bytes: &[u8]) -> Result<Vec<u8>, AllocError>
+    ensures { IfOk result (λ content. content.items ≡ bytes.now) }
+{
+    let mut content = Vec::new(alloc);
+    append(&mut content, bytes)?;
+    Ok(content)
+}
+
 /// Appends a run that ends with FS CR to the content, without these two bytes. The FS may be the last byte of the content.
 pub(crate) fn end_content(content: &mut Vec<u8>, run: &[u8]) -> Result<(), AllocError>
     requires { EndsAt content.old.items run.now }
@@ -46,7 +71,7 @@ pub(crate) fn end_content(content: &mut Vec<u8>, run: &[u8]) -> Result<(), Alloc
         content.pop();
         return Ok(());
     }
-    content.extend_from_slice(&run[..run.len() - 2])?;
+    append(content, &run[..run.len() - 2])?;
     Ok(())
 }
 
@@ -63,7 +88,7 @@ fn take_block<'a>(
         return Ok((Tail::Between, &[]));
     };
     match reach_into(&[], inner) {
-        Reach::Open => Ok((Tail::Within(Vec::from_slice(alloc, inner)?), &[])),
+        Reach::Open => Ok((Tail::Within(open_content(alloc, inner)?), &[])),
         Reach::TooLong => Ok((Tail::Overlong, &[])),
         Reach::Ends(run, after) => {
             let mut content = Vec::new(alloc);

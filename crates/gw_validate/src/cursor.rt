@@ -37,8 +37,7 @@ pub(crate) fn first_from<'a>(
     ensures value { IsValueAt (texts.entries segment.now.at) result.0 result.1 }
 {
     let mut at = near;
-    while at < segment.value_count() {
-        let value = segment.value(at);
+    while let Some(value) = segment.get_value(at) {
         if !is_below(value.place, place) {
             return (at, Some(value));
         }
@@ -71,8 +70,7 @@ fn first_behind<'a>(
     ensures value { IsValueAt (texts.entries segment.now.at) result.0 result.1 }
 {
     let mut at = near;
-    while at < segment.value_count() {
-        let value = segment.value(at);
+    while let Some(value) = segment.get_value(at) {
         if !is_up_to(value.place, field, rep) {
             return (at, Some(value));
         }
@@ -135,8 +133,7 @@ fn first_of<'a>(segment: &Segment<'a>, near: usize, field: usize) -> (usize, Opt
     ensures value { IsValueAt (texts.entries segment.now.at) result.0 result.1 }
 {
     let mut at = near;
-    while at < segment.value_count() {
-        let value = segment.value(at);
+    while let Some(value) = segment.get_value(at) {
         if value.place.field >= field {
             return (at, Some(value));
         }

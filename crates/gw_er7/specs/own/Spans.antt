@@ -6,7 +6,9 @@ use Rattle.std.specs.Cmp.Lexicographic.{slice_cmp}
 use Rattle.std.specs.Coded.{Coded, code_by, coded×, coded_ℕ}
 use Rattle.gw_er7.specs.declared.place.Place.{Place}
 use Rattle.gw_er7.specs.declared.spans.TextSpan.{TextSpan}
+use Rattle.gw_er7.specs.declared.spans.NarrowSpan.{NarrowSpan}
 use Rattle.gw_er7.specs.Message.{numbers}
+use Rattle.gw_er7.specs.View.{between}
 
 -- a span is stored as its numbers
 abbrev pub span_code : Coded TextSpan
@@ -25,6 +27,14 @@ all_said said narrow others = map said narrow ++ others
 -- all are of this width, or none
 abbrev pub AreAlike : {N : Type 0} → List N → List TextSpan → Type 0
 AreAlike narrow others = (narrow ≡ []) ⊎ (others ≡ [])
+
+-- spans of one width: those from one number up to another, or none
+abbrev pub AreOf : {N : Type 0} → (N → TextSpan) → ℕ → ℕ → List N → List TextSpan → Type 0
+AreOf said from to narrow spans = (narrow ≡ []) ⊎ (map said narrow ≡ between from to spans)
+
+-- what a span of the narrowest width says
+abbrev pub message_span : NarrowSpan ℕ ℕ → TextSpan
+message_span l = record { place = record { field = l.field; rep = l.rep; comp = l.comp; sub = l.sub }; from = l.from; len = l.len }
 
 -- those from this number on were put in the order of their places
 pub record AreSortedFrom {A : Type 0} (place : A → Place) (first : ℕ) (old new : List A) : Type 0 where

@@ -7,3 +7,9 @@ invariant-loop-at l = record { within : l.at ≤ length l.bytes; plain : IsPlain
 
 abbrev pub decreases-loop-at : goal.decreases-loop-at
 decreases-loop-at l = length l.bytes - l.at
+
+abbrev pub invariant-loop-at-2 : goal.invariant-loop-at-2
+invariant-loop-at-2 l = record { within : l.at ≤ length l.bytes; plain : IsPlainTo l.classes l.bytes l.at }
+
+abbrev pub decreases-loop-at-2 : goal.decreases-loop-at-2
+decreases-loop-at-2 l = length l.bytes - l.at

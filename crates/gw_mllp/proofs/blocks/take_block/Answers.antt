@@ -4,9 +4,9 @@ use Rattle.gw_mllp.specs.Taken.{contents}
 use Rattle.gw_mllp.proofs.Steps.{begun_open, begun_over, begun_end}
 use Rattle.gw_mllp.proofs.blocks.take_block.Goals as goal
 
-pub returns-in_ok-from_slice-in-Open-clause-ok : goal.returns-in_ok-from_slice-in-Open-clause-ok
-returns-in_ok-from_slice-in-Open-clause-ok c =
-    begun_open (contents c.args.made.now.items) c.args.bytes.now c.in-Some.inner.now c.in_ok-from_slice-in-Open.field-0.items c.in-Some.ensures.some c.in-Open.ensures c.in_ok-from_slice-in-Open.ensures.items
+pub returns-in_ok-open_content-in-Open-clause-ok : goal.returns-in_ok-open_content-in-Open-clause-ok
+returns-in_ok-open_content-in-Open-clause-ok c =
+    begun_open (contents c.args.made.now.items) c.args.bytes.now c.in-Some.inner.now c.in_ok-open_content-in-Open.field-0.items c.in-Some.ensures.some c.in-Open.ensures c.in_ok-open_content-in-Open.ensures
 
 pub returns-in-TooLong-clause-ok : goal.returns-in-TooLong-clause-ok
 returns-in-TooLong-clause-ok c = begun_over (contents c.args.made.now.items) c.args.bytes.now c.in-Some.inner.now c.in-Some.ensures.some c.in-TooLong.ensures

@@ -1,0 +1,16 @@
+-- Texts that are borrowed from a message.
+use Rattle.std.specs.Prelude.{◌≡◌, ◌<◌, ℕ, List, length, slice_index_or}
+use Rattle.gw_er7.specs.declared.spans.NarrowSpan.{NarrowSpan}
+use Rattle.gw_er7.specs.declared.spans.TextSpan.{TextSpan}
+use Rattle.gw_er7.specs.View.{Held, AreWithin}
+use Rattle.gw_er7.specs.own.Spans.{AreOf, message_span}
+
+-- some of the spans, and the same as a slice where they are narrow
+pub record AreBorrowed (bytes : List ℕ) (from to : ℕ) (narrow : List (NarrowSpan ℕ ℕ)) (spans : List TextSpan) : Type 0 where
+  pub within : AreWithin bytes from to spans
+  pub same : AreOf message_span from to narrow spans
+
+-- the text of this number
+pub record IsNumbered (values : List Held) (i : ℕ) (value : Held) : Type 0 where
+  pub within : i < length values
+  pub is : (other : Held) → slice_index_or values i other ≡ value
