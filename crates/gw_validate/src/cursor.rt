@@ -36,6 +36,8 @@ pub(crate) fn first_from<'a>(
     ensures start { IsStart (numbers place) (texts.entries segment.now.at) result.0 }
     ensures value { IsValueAt (texts.entries segment.now.at) result.0 result.1 }
 {
+    // (its clause says what every segment keeps)
+    let _count = segment.value_count();
     let mut at = near;
     while let Some(value) = segment.get_value(at) {
         if !is_below(value.place, place) {
@@ -69,6 +71,8 @@ fn first_behind<'a>(
     ensures start { IsStart (field ∷ (rep + 1) ∷ 0 ∷ 0 ∷ []) (texts.entries segment.now.at) result.0 }
     ensures value { IsValueAt (texts.entries segment.now.at) result.0 result.1 }
 {
+    // (its clause says what every segment keeps)
+    let _count = segment.value_count();
     let mut at = near;
     while let Some(value) = segment.get_value(at) {
         if !is_up_to(value.place, field, rep) {
@@ -132,6 +136,8 @@ fn first_of<'a>(segment: &Segment<'a>, near: usize, field: usize) -> (usize, Opt
     ensures start { IsStart (field ∷ 1 ∷ 0 ∷ 0 ∷ []) (texts.entries segment.now.at) result.0 }
     ensures value { IsValueAt (texts.entries segment.now.at) result.0 result.1 }
 {
+    // (its clause says what every segment keeps)
+    let _count = segment.value_count();
     let mut at = near;
     while let Some(value) = segment.get_value(at) {
         if value.place.field >= field {
