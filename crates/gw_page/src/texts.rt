@@ -6,6 +6,7 @@ use itoa::Buffer;
 use std::alloc::AllocError;
 
 /// Adds text as it is.
+#[inline(always)]
 pub(crate) fn put(out: &mut Vec<u8>, text: &[u8]) -> Result<(), AllocError>
     ensures { OnOk result (out.new.items ≡ out.old.items ++ text.now) }
 {
