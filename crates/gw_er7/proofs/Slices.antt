@@ -1,5 +1,5 @@
 -- Texts that lie in one buffer.
-use Rattle.std.proofs.Common.{◌≡◌, ℕ, ◌+◌, ◌-◌, ◌<◌, ◌≤◌, List, [], ◌∷◌, ◌++◌, length, take, drop, get_or, map, inl, inr, refl, sym, ap, subst, ◌∙◌, arith}
+use Rattle.std.proofs.Common.{◌≡◌, ℕ, ◌+◌, ◌<◌, ◌≤◌, List, [], ◌∷◌, ◌++◌, length, take, drop, get_or, map, inl, inr, refl, sym, ap, subst, ◌∙◌, arith}
 use Rattle.std.proofs.lemmas.List.{map-append, take-append-le, drop-append-le, length-drop, take_all, get_or-map, length-map}
 use Rattle.std.proofs.Math.Seq.{drop-append_seam}
 use Rattle.std.proofs.lemmas.List.Elements.{All-tail}
@@ -7,7 +7,7 @@ use Rattle.gw_er7.specs.declared.spans.TextSpan.{TextSpan}
 use Rattle.gw_er7.specs.View.{Held, IsInside, AreInside, AreWithin, between, held_at, held}
 use Rattle.gw_er7.specs.declared.spans.NarrowSpan.{NarrowSpan}
 use Rattle.gw_er7.specs.own.Spans.{AreOf, message_span}
-use Rattle.gw_er7.specs.own.Borrowed.{AreBorrowed, IsNumbered}
+use Rattle.gw_er7.specs.own.Borrowed.{IsNumbered}
 use Rattle.gw_er7.proofs.Lying.{length-between, get_or-between}
 
 -- what is appended to a buffer changes no slice that was in bounds
@@ -43,35 +43,33 @@ module _ (bytes : List ℕ) (from to : ℕ) (ls : List TextSpan) (i : ℕ) (l : 
   pub inside_at : l.from + l.len ≤ length bytes
   inside_at = (let inside = are.inside (from + i) l (omega (arith, before, are.bound)) in subst (λ (m : TextSpan). m.from + m.len ≤ length bytes) here inside)
 
-  pub value_at : (other : Held) → get_or now i other ≡ record { place = l.place; text = take (l.from + l.len - l.from) (drop l.from bytes) }
+  pub value_at : (other : Held) → get_or now i other ≡ held_at bytes l
   value_at other =
-      let long : l.len ≡ l.from + l.len - l.from = omega arith in
-      let text = ap (λ (n : ℕ). take n (drop l.from bytes)) long in
       ap (λ (hs : List Held). get_or hs i other) (sym view) ∙ get_or-between from to (held bytes ls) i other before
-      ∙ get_or-map (held_at bytes) ls (from + i) l other (omega (arith, before, are.bound)) ∙ ap (held_at bytes) here ∙ (λ j. record { place = l.place; text = text j })
+      ∙ get_or-map (held_at bytes) ls (from + i) l other (omega (arith, before, are.bound)) ∙ ap (held_at bytes) here
 
--- ---- the same of a span of the narrowest width
+-- ---- the same of spans that are kept as a slice
 
 are_narrow : (from to : ℕ) (ns : List (NarrowSpan ℕ ℕ)) (ls : List TextSpan) → AreOf message_span from to ns ls → 0 < length ns → map message_span ns ≡ between from to ls
 are_narrow from to ns ls (inl e) some = absurd (omega (arith, some, ap length e))
 are_narrow from to ns ls (inr e) some = e
 
-module _ (bytes : List ℕ) (from to : ℕ) (ns : List (NarrowSpan ℕ ℕ)) (ls : List TextSpan) (i : ℕ) (d : NarrowSpan ℕ ℕ) (l : TextSpan) (now : List Held) (are : AreBorrowed bytes from to ns ls) (view : between from to (held bytes ls) ≡ now) (lt : i < length ns) (is : l ≡ message_span (get_or ns i d)) where
+module _ (bytes : List ℕ) (from to : ℕ) (ns : List (NarrowSpan ℕ ℕ)) (ls : List TextSpan) (i : ℕ) (d : NarrowSpan ℕ ℕ) (l : TextSpan) (now : List Held) (are : AreWithin bytes from to ls) (of : AreOf message_span from to ns ls) (view : between from to (held bytes ls) ≡ now) (lt : i < length ns) (is : l ≡ message_span (get_or ns i d)) where
   same : map message_span ns ≡ between from to ls
-  same = are_narrow from to ns ls are.same (omega (arith, lt))
+  same = are_narrow from to ns ls of (omega (arith, lt))
 
   narrow_before : from + i < to
-  narrow_before = omega (arith, lt, length-map ns message_span, ap length same, length-between from to ls are.within.bound, are.within.rising)
+  narrow_before = omega (arith, lt, length-map ns message_span, ap length same, length-between from to ls are.bound, are.rising)
 
   narrow_here : get_or ls (from + i) l ≡ l
   narrow_here =
       sym (get_or-between from to ls i l narrow_before) ∙ ap (λ (ms : List TextSpan). get_or ms i l) (sym same) ∙ get_or-map message_span ns i d l lt ∙ sym is
 
   narrow_lt : i < length now
-  narrow_lt = omega (arith, narrow_before, ap length view, length-between from to (held bytes ls) (omega (arith, are.within.bound, length-held bytes ls)))
+  narrow_lt = omega (arith, narrow_before, ap length view, length-between from to (held bytes ls) (omega (arith, are.bound, length-held bytes ls)))
 
   pub narrow_inside : l.from + l.len ≤ length bytes
-  narrow_inside = inside_at bytes from to ls i l now are.within view narrow_lt narrow_here
+  narrow_inside = inside_at bytes from to ls i l now are view narrow_lt narrow_here
 
-  pub narrow_value : IsNumbered now i (record { place = l.place; text = take (l.from + l.len - l.from) (drop l.from bytes) })
-  narrow_value = record { within = narrow_lt; is = value_at bytes from to ls i l now are.within view narrow_lt narrow_here }
+  pub narrow_value : (value : Held) → value ≡ held_at bytes l → IsNumbered now i value
+  narrow_value value e = record { within = narrow_lt; is = λ other. value_at bytes from to ls i l now are view narrow_lt narrow_here other ∙ sym e }

@@ -370,7 +370,7 @@ impl<N: Width, L: Store> Model for Spans<N, L> {
 }
 
 impl<N: Width, L: Store> Spans<N, L> {
-    ghost use Rattle.std.specs.Prelude.{◌≡◌, ◌≤◌, ◌++◌, ◌∷◌, [], OnOk, OnErr};
+    ghost use Rattle.std.specs.Prelude.{◌≡◌, ◌≤◌, ◌++◌, ◌∷◌, [], IfSome, OnOk, OnErr};
     ghost use Rattle.gw_er7.specs.own.Spans.{AreOf};
 
     /// Puts a span behind the others that doesn't fit in the narrow width: none is narrow from now on.
@@ -381,7 +381,9 @@ impl<N: Width, L: Store> Spans<N, L> {
         if self.narrow.is_empty() {
             return self.others.push(span);
         }
-        let mut others = L::new(self.alloc);
+        // (the narrow ones have capacity for a text in six bytes, and a text with its separator takes two)
+        let room = self.narrow.capacity().saturating_mul(3);
+        let mut others = L::with_room(self.alloc, room)?;
         widen_into(&mut others, &self.narrow)?;
         others.push(span)?;
         self.others = others;
@@ -399,6 +401,17 @@ impl<N: Width, L: Store> Spans<N, L> {
             return &[];
         }
         &self.narrow[from..to]
+    }
+
+    /// The wider spans, where none is narrow.
+    #[inline(always)]
+    pub(crate) fn wider(&self) -> Option<&L>
+        ensures { IfSome result (λ others. L.spans others.now ≡ self.now) }
+    {
+        if self.narrow.is_empty() {
+            return Some(&self.others);
+        }
+        None
     }
 
     /// Puts a span behind the others, whatever its width.
@@ -525,8 +538,11 @@ impl<N: Width, L: Store> Store for Spans<N, L> {
     }
 }
 
-/// The narrowest span of a message, in 12 bytes.
-pub(crate) type MessageSpan = NarrowSpan<u8, u32>;
+/// A span of a message in 12 bytes.
+pub(crate) type ShortSpan = NarrowSpan<u8, u32>;
+
+/// A span of a message in 24 bytes.
+pub(crate) type LongSpan = NarrowSpan<u32, u32>;
 
 /// The spans of a message: all in 12 bytes, in 24, or in 48.
-pub(crate) type MessageSpans = Spans<MessageSpan, Spans<NarrowSpan<u32, u32>, Vec<TextSpan>>>;
+pub(crate) type MessageSpans = Spans<ShortSpan, Spans<LongSpan, Vec<TextSpan>>>;

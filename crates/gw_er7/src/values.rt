@@ -1,15 +1,19 @@
 //! Borrowed texts at places.
+ghost use Rattle.std.specs.Prelude.{◌≡◌, ◌+◌, ◌≤◌, length};
+ghost use Rattle.gw_er7.specs.View.{held_at};
+ghost use Rattle.gw_er7.specs.own.Spans.{AreOf, message_span};
 
-use crate::spans::{MessageSpan, MessageSpans, Store, Width};
+use crate::spans::{LongSpan, MessageSpans, ShortSpan, Store, TextSpan, Width};
 use crate::view::Value;
 use std::marker::Model;
 
 /// Borrowed texts at places: the spans from one number up to another, and the bytes in which their texts lie.
-/// Where the spans are narrow, they are kept as a slice too: so one is found by one test.
+/// Where they are in 12 bytes each, or in 24, they are kept as a slice too: so one is found by one test, or two.
 #[derive(Drop)]
 pub(crate) struct Values<'a> {
     spans: &'a MessageSpans,
-    narrow: &'a [MessageSpan],
+    short: &'a [ShortSpan],
+    long: &'a [LongSpan],
     bytes: &'a [u8],
     from: usize,
     to: usize,
@@ -27,7 +31,31 @@ impl<'a> Model for Values<'a> {
 
     ghost view = { λ v. between v.from v.to (held v.bytes.now v.spans.now) };
 
-    ghost invariant = { λ v. AreBorrowed v.bytes.now v.from v.to v.narrow.now v.spans.now };
+    ghost invariant = { λ v. AreBorrowed v.bytes.now v.from v.to v.short.now v.long.now v.spans.now };
+}
+
+// The text to which a span points.
+#[inline(always)]
+fn text_at(bytes: &[u8], span: TextSpan) -> Value<'_>
+    requires { span.from + span.len ≤ length bytes.now }
+    ensures { record { place = result.place; text = result.text.now } ≡ held_at bytes.now span }
+{
+    Value {
+        place: span.place,
+        text: &bytes[span.from..span.from + span.len],
+    }
+}
+
+// The spans from one number up to another, where they are in 24 bytes; else none.
+#[inline(always)]
+fn long_between(spans: &MessageSpans, from: usize, to: usize) -> &[LongSpan]
+    requires { from ≤ to }
+    ensures { AreOf message_span from to result.now spans.now }
+{
+    match spans.wider() {
+        Some(others) => others.narrow_between(from, to),
+        None => &[],
+    }
 }
 
 impl<'a> Values<'a> {
@@ -42,7 +70,8 @@ impl<'a> Values<'a> {
     {
         Values {
             spans,
-            narrow: spans.narrow_between(from, to),
+            short: spans.narrow_between(from, to),
+            long: long_between(spans, from, to),
             bytes,
             from,
             to,
@@ -55,7 +84,8 @@ impl<'a> Values<'a> {
     {
         Values {
             spans: self.spans,
-            narrow: self.narrow,
+            short: self.short,
+            long: self.long,
             bytes: self.bytes,
             from: self.from,
             to: self.to,
@@ -76,11 +106,7 @@ impl<'a> Values<'a> {
         ensures { (other : Held) → slice_index_or self.now i other ≡ record { place = result.place; text = result.text.now } }
     {
         let spans = self.spans;
-        let span = spans.at(self.from + i);
-        Value {
-            place: span.place,
-            text: &self.bytes[span.from..span.from + span.len],
-        }
+        text_at(self.bytes, spans.at(self.from + i))
     }
 
     /// The text of this number, from 0, with its place, where there is one.
@@ -88,12 +114,11 @@ impl<'a> Values<'a> {
     pub(crate) fn get(&self, i: usize) -> Option<Value<'a>>
         ensures { MatchOption result (length self.now ≤ i) (λ value. IsNumbered self.now i (record { place = value.place; text = value.text.now })) }
     {
-        if i < self.narrow.len() {
-            let span = self.narrow[i].widened();
-            return Some(Value {
-                place: span.place,
-                text: &self.bytes[span.from..span.from + span.len],
-            });
+        if i < self.short.len() {
+            return Some(text_at(self.bytes, self.short[i].widened()));
+        }
+        if i < self.long.len() {
+            return Some(text_at(self.bytes, self.long[i].widened()));
         }
         if i >= self.len() {
             return None;

@@ -53,10 +53,13 @@ pub(crate) fn first_from<'a>(
 fn is_up_to(here: Place, field: usize, rep: usize) -> bool
     ensures { result ≡ is_lt (slice_cmp nat_cmp (numbers here) (field ∷ (rep + 1) ∷ 0 ∷ 0 ∷ [])) }
 {
-    if here.field != field {
-        return here.field < field;
+    if here.field > field {
+        return false;
     }
-    here.rep <= rep
+    if here.field == field && here.rep > rep {
+        return false;
+    }
+    true
 }
 
 // The first text behind a repetition, with its number. Those before the number `near` aren't behind it.

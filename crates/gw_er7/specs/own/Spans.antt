@@ -32,7 +32,7 @@ AreAlike narrow others = (narrow ≡ []) ⊎ (others ≡ [])
 abbrev pub AreOf : {N : Type 0} → (N → TextSpan) → ℕ → ℕ → List N → List TextSpan → Type 0
 AreOf said from to narrow spans = (narrow ≡ []) ⊎ (map said narrow ≡ between from to spans)
 
--- what a span of the narrowest width says
+-- what a span of either of the narrower widths says
 abbrev pub message_span : NarrowSpan ℕ ℕ → TextSpan
 message_span l = record { place = record { field = l.field; rep = l.rep; comp = l.comp; sub = l.sub }; from = l.from; len = l.len }
 
