@@ -151,8 +151,9 @@ fn plain_in(classes: &ByteClasses, bytes: &[u8], is_long: bool) -> usize
     plain_from(classes, bytes, 0)
 }
 
-/// The place behind a separator: its own number is one more, and the lower ones begin again.
-fn next_place(classes: &ByteClasses, place: Place, separator: u8) -> Place
+/// The place behind a separator, in a segment that is long or isn't: its own number is one more, and the lower ones begin again.
+#[inline(always)]
+fn next_place(classes: &ByteClasses, place: Place, separator: u8, is_long: bool) -> Place
     requires field { place.field < 2 ^ 64 - 1 }
     requires rep { place.rep < 2 ^ 64 - 1 }
     requires comp { place.comp < 2 ^ 64 - 1 }
@@ -164,8 +165,29 @@ fn next_place(classes: &ByteClasses, place: Place, separator: u8) -> Place
     ensures comp { result.comp ≤ place.comp + 1 }
     ensures sub { result.sub ≤ place.sub + 1 }
 {
-    // (sums in place of cases: which separator comes next is hard to predict)
     let class = classes.class(separator);
+    if is_long {
+        // (in a long segment most separators are of one kind)
+        let Place {
+            field,
+            rep,
+            comp,
+            sub,
+        } = place;
+        let (field, rep, comp, sub) = match class {
+            Class::Field => (field + 1, 1, 1, 1),
+            Class::Repetition => (field, rep + 1, 1, 1),
+            Class::Component => (field, rep, comp + 1, 1),
+            _ => (field, rep, comp, sub + 1),
+        };
+        return Place {
+            field,
+            rep,
+            comp,
+            sub,
+        };
+    }
+    // (sums in place of cases: which separator comes next is hard to predict)
     let field = matches!(class, Class::Field);
     let rep = field | matches!(class, Class::Repetition);
     let comp = rep | matches!(class, Class::Component);
@@ -344,7 +366,7 @@ fn take_values(
         }
         if is_separator(classes, rest[plain]) {
             push_value(taken, classes, place, here, &rest[..plain], plain, is_long)?;
-            place = next_place(classes, place, rest[plain]);
+            place = next_place(classes, place, rest[plain], is_long);
             here += plain + 1;
             rest = &rest[plain + 1..];
             continue;
@@ -365,7 +387,7 @@ fn take_values(
         let Some((separator, later)) = take_other(taken, classes, there, here, rest, plain)? else {
             return Ok(());
         };
-        place = next_place(classes, place, separator);
+        place = next_place(classes, place, separator, is_long);
         here += rest.len() - later.len();
         rest = later;
     }
