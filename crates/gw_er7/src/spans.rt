@@ -1,6 +1,6 @@
 //! Where the texts of a message lie among its bytes.
 //!
-//! A text takes 12 bytes where the numbers of places fit 8 bits and the others 32, 24 where all fit 32, else 48.
+//! A text takes 12 bytes where the numbers of places fit 8 bits and the others 32, 16 where those of repetitions need 32, 24 where all fit 32, else 48.
 ghost use Rattle.std.specs.Prelude.{◌≡◌, ◌↔◌, ◌++◌, ◌≤◌, length, map, IsTrue, OnOk};
 ghost use Rattle.std.specs.List.{AllZip};
 ghost use Rattle.std.specs.List.Sorted.{IsPermutation, IsSortedBy};
@@ -23,15 +23,15 @@ pub(crate) struct TextSpan {
     pub(crate) len: usize,
 }
 
-/// The same in fewer bytes: the numbers of the place in one width, and the others in another.
+/// The same in fewer bytes: where the text lies in one width, the repetition in another, and the other numbers of the place in a third.
 #[derive(Clone, Copy)]
-pub(crate) struct NarrowSpan<P, L> {
-    field: P,
-    rep: P,
-    comp: P,
-    sub: P,
+pub(crate) struct NarrowSpan<P, R, L> {
     from: L,
     len: L,
+    rep: R,
+    field: P,
+    comp: P,
+    sub: P,
 }
 
 /// A width of numbers: `said` is the number that one says, and `most` the largest that fits.
@@ -111,36 +111,40 @@ pub(crate) trait Width: Copy {
 
     ghost farthest: { ℕ };
 
+    ghost most_reps: { ℕ };
+
     ghost largest: { ℕ };
 
     /// Whether the numbers of the span fit in this width.
     fn fits(span: TextSpan) -> bool
-        ensures { IsTrue result ↔ IsUpTo farthest largest span };
+        ensures { IsTrue result ↔ IsUpTo farthest most_reps largest span };
 
     /// The span in this width.
     fn narrowed(span: TextSpan) -> Self
-        requires { IsUpTo farthest largest span }
+        requires { IsUpTo farthest most_reps largest span }
         ensures { said result ≡ span };
 
     fn widened(self) -> TextSpan
         ensures { result ≡ said self };
 }
 
-impl<P: Number, L: Number> Width for NarrowSpan<P, L> {
+impl<P: Number, R: Number, L: Number> Width for NarrowSpan<P, R, L> {
     ghost said = { λ l. record {
-      place = record { field = P.said l.field; rep = P.said l.rep; comp = P.said l.comp; sub = P.said l.sub };
+      place = record { field = P.said l.field; rep = R.said l.rep; comp = P.said l.comp; sub = P.said l.sub };
       from = L.said l.from;
       len = L.said l.len;
     } };
 
     ghost farthest = { P.most };
 
+    ghost most_reps = { R.most };
+
     ghost largest = { L.most };
 
     #[inline(always)]
     fn fits(span: TextSpan) -> bool {
         P::fits(span.place.field)
-            & P::fits(span.place.rep)
+            & R::fits(span.place.rep)
             & P::fits(span.place.comp)
             & P::fits(span.place.sub)
             & L::fits(span.from)
@@ -148,14 +152,14 @@ impl<P: Number, L: Number> Width for NarrowSpan<P, L> {
     }
 
     #[inline(always)]
-    fn narrowed(span: TextSpan) -> NarrowSpan<P, L> {
+    fn narrowed(span: TextSpan) -> NarrowSpan<P, R, L> {
         NarrowSpan {
-            field: P::narrowed(span.place.field),
-            rep: P::narrowed(span.place.rep),
-            comp: P::narrowed(span.place.comp),
-            sub: P::narrowed(span.place.sub),
             from: L::narrowed(span.from),
             len: L::narrowed(span.len),
+            rep: R::narrowed(span.place.rep),
+            field: P::narrowed(span.place.field),
+            comp: P::narrowed(span.place.comp),
+            sub: P::narrowed(span.place.sub),
         }
     }
 
@@ -181,6 +185,8 @@ impl Width for TextSpan {
     ghost said = { λ span. span };
 
     ghost farthest = { 2 ^ 64 - 1 };
+
+    ghost most_reps = { 2 ^ 64 - 1 };
 
     ghost largest = { 2 ^ 64 - 1 };
 
@@ -539,10 +545,13 @@ impl<N: Width, L: Store> Store for Spans<N, L> {
 }
 
 /// A span of a message in 12 bytes.
-pub(crate) type ShortSpan = NarrowSpan<u8, u32>;
+pub(crate) type ShortSpan = NarrowSpan<u8, u8, u32>;
 
-/// A span of a message in 24 bytes.
-pub(crate) type LongSpan = NarrowSpan<u32, u32>;
+/// A span of a message in 16 bytes, of a field that repeats often.
+pub(crate) type LongSpan = NarrowSpan<u8, u32, u32>;
 
-/// The spans of a message: all in 12 bytes, in 24, or in 48.
-pub(crate) type MessageSpans = Spans<ShortSpan, Spans<LongSpan, Vec<TextSpan>>>;
+/// The wider spans of a message: all in 16 bytes, in 24, or in 48.
+type LongSpans = Spans<LongSpan, Spans<NarrowSpan<u32, u32, u32>, Vec<TextSpan>>>;
+
+/// The spans of a message: all in 12 bytes, in 16, in 24, or in 48.
+pub(crate) type MessageSpans = Spans<ShortSpan, LongSpans>;
