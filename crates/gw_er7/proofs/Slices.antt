@@ -50,11 +50,11 @@ module _ (bytes : List ℕ) (from to : ℕ) (ls : List TextSpan) (i : ℕ) (l : 
 
 -- ---- the same of spans that are kept as a slice
 
-are_narrow : (from to : ℕ) (ns : List (NarrowSpan ℕ ℕ ℕ)) (ls : List TextSpan) → AreOf message_span from to ns ls → 0 < length ns → map message_span ns ≡ between from to ls
+are_narrow : (from to : ℕ) (ns : List (NarrowSpan ℕ ℕ ℕ ℕ)) (ls : List TextSpan) → AreOf message_span from to ns ls → 0 < length ns → map message_span ns ≡ between from to ls
 are_narrow from to ns ls (inl e) some = absurd (omega (arith, some, ap length e))
 are_narrow from to ns ls (inr e) some = e
 
-module _ (bytes : List ℕ) (from to : ℕ) (ns : List (NarrowSpan ℕ ℕ ℕ)) (ls : List TextSpan) (i : ℕ) (d : NarrowSpan ℕ ℕ ℕ) (l : TextSpan) (now : List Held) (are : AreWithin bytes from to ls) (of : AreOf message_span from to ns ls) (view : between from to (held bytes ls) ≡ now) (lt : i < length ns) (is : l ≡ message_span (get_or ns i d)) where
+module _ (bytes : List ℕ) (from to : ℕ) (ns : List (NarrowSpan ℕ ℕ ℕ ℕ)) (ls : List TextSpan) (i : ℕ) (d : NarrowSpan ℕ ℕ ℕ ℕ) (l : TextSpan) (now : List Held) (are : AreWithin bytes from to ls) (of : AreOf message_span from to ns ls) (view : between from to (held bytes ls) ≡ now) (lt : i < length ns) (is : l ≡ message_span (get_or ns i d)) where
   same : map message_span ns ≡ between from to ls
   same = are_narrow from to ns ls of (omega (arith, lt))
 

@@ -23,15 +23,15 @@ pub(crate) struct TextSpan {
     pub(crate) len: usize,
 }
 
-/// The same in fewer bytes: where the text lies in one width, the repetition in another, and the other numbers of the place in a third.
+/// The same in fewer bytes: each two of the numbers in one width.
 #[derive(Clone, Copy)]
-pub(crate) struct NarrowSpan<P, R, L> {
-    from: L,
-    len: L,
+pub(crate) struct NarrowSpan<P, R, L, F> {
+    from: F,
     rep: R,
+    sub: R,
+    len: L,
     field: P,
     comp: P,
-    sub: P,
 }
 
 /// A width of numbers: `said` is the number that one says, and `most` the largest that fits.
@@ -78,6 +78,29 @@ impl Number for u8 {
     }
 }
 
+impl Number for u16 {
+    ghost use Rattle.std.specs.Prelude.{◌-◌, ◌^◌};
+
+    ghost said = { λ number. number };
+
+    ghost most = { 2 ^ 16 - 1 };
+
+    #[inline(always)]
+    fn fits(number: usize) -> bool {
+        number <= u16::MAX as usize
+    }
+
+    #[inline(always)]
+    fn narrowed(number: usize) -> u16 {
+        number as u16
+    }
+
+    #[inline(always)]
+    fn widened(self) -> usize {
+        self as usize
+    }
+}
+
 impl Number for u32 {
     ghost use Rattle.std.specs.Prelude.{◌-◌, ◌^◌};
 
@@ -115,23 +138,25 @@ pub(crate) trait Width: Copy {
 
     ghost largest: { ℕ };
 
+    ghost behind: { ℕ };
+
     /// Whether the numbers of the span fit in this width.
     fn fits(span: TextSpan) -> bool
-        ensures { IsTrue result ↔ IsUpTo farthest most_reps largest span };
+        ensures { IsTrue result ↔ IsUpTo farthest most_reps largest behind span };
 
     /// The span in this width.
     fn narrowed(span: TextSpan) -> Self
-        requires { IsUpTo farthest most_reps largest span }
+        requires { IsUpTo farthest most_reps largest behind span }
         ensures { said result ≡ span };
 
     fn widened(self) -> TextSpan
         ensures { result ≡ said self };
 }
 
-impl<P: Number, R: Number, L: Number> Width for NarrowSpan<P, R, L> {
+impl<P: Number, R: Number, L: Number, F: Number> Width for NarrowSpan<P, R, L, F> {
     ghost said = { λ l. record {
-      place = record { field = P.said l.field; rep = R.said l.rep; comp = P.said l.comp; sub = P.said l.sub };
-      from = L.said l.from;
+      place = record { field = P.said l.field; rep = R.said l.rep; comp = P.said l.comp; sub = R.said l.sub };
+      from = F.said l.from;
       len = L.said l.len;
     } };
 
@@ -141,25 +166,27 @@ impl<P: Number, R: Number, L: Number> Width for NarrowSpan<P, R, L> {
 
     ghost largest = { L.most };
 
+    ghost behind = { F.most };
+
     #[inline(always)]
     fn fits(span: TextSpan) -> bool {
         P::fits(span.place.field)
             & R::fits(span.place.rep)
             & P::fits(span.place.comp)
-            & P::fits(span.place.sub)
-            & L::fits(span.from)
+            & R::fits(span.place.sub)
+            & F::fits(span.from)
             & L::fits(span.len)
     }
 
     #[inline(always)]
-    fn narrowed(span: TextSpan) -> NarrowSpan<P, R, L> {
+    fn narrowed(span: TextSpan) -> NarrowSpan<P, R, L, F> {
         NarrowSpan {
-            from: L::narrowed(span.from),
-            len: L::narrowed(span.len),
+            from: F::narrowed(span.from),
             rep: R::narrowed(span.place.rep),
+            sub: R::narrowed(span.place.sub),
+            len: L::narrowed(span.len),
             field: P::narrowed(span.place.field),
             comp: P::narrowed(span.place.comp),
-            sub: P::narrowed(span.place.sub),
         }
     }
 
@@ -189,6 +216,8 @@ impl Width for TextSpan {
     ghost most_reps = { 2 ^ 64 - 1 };
 
     ghost largest = { 2 ^ 64 - 1 };
+
+    ghost behind = { 2 ^ 64 - 1 };
 
     fn fits(span: TextSpan) -> bool {
         true
@@ -545,13 +574,13 @@ impl<N: Width, L: Store> Store for Spans<N, L> {
 }
 
 /// A span of a message in 12 bytes.
-pub(crate) type ShortSpan = NarrowSpan<u8, u8, u32>;
+pub(crate) type ShortSpan = NarrowSpan<u8, u8, u32, u32>;
 
 /// A span of a message in 16 bytes, of a field that repeats often.
-pub(crate) type LongSpan = NarrowSpan<u8, u32, u32>;
+pub(crate) type LongSpan = NarrowSpan<u8, u32, u16, u32>;
 
 /// The wider spans of a message: all in 16 bytes, in 24, or in 48.
-type LongSpans = Spans<LongSpan, Spans<NarrowSpan<u32, u32, u32>, Vec<TextSpan>>>;
+type LongSpans = Spans<LongSpan, Spans<NarrowSpan<u32, u32, u32, u32>, Vec<TextSpan>>>;
 
 /// The spans of a message: all in 12 bytes, in 16, in 24, or in 48.
 pub(crate) type MessageSpans = Spans<ShortSpan, LongSpans>;

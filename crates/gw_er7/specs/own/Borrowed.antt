@@ -6,7 +6,7 @@ use Rattle.gw_er7.specs.View.{Held, AreWithin}
 use Rattle.gw_er7.specs.own.Spans.{AreOf, message_span}
 
 -- some of the spans, and the same as a slice where they are of one of these widths
-pub record AreBorrowed (bytes : List ℕ) (from to : ℕ) (short long : List (NarrowSpan ℕ ℕ ℕ)) (spans : List TextSpan) : Type 0 where
+pub record AreBorrowed (bytes : List ℕ) (from to : ℕ) (short long : List (NarrowSpan ℕ ℕ ℕ ℕ)) (spans : List TextSpan) : Type 0 where
   pub within : AreWithin bytes from to spans
   pub shorts : AreOf message_span from to short spans
   pub longs : AreOf message_span from to long spans

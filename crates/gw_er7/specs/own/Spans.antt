@@ -17,8 +17,8 @@ span_code =
     (λ l. (l.place.field, (l.place.rep, (l.place.comp, (l.place.sub, (l.from, l.len)))))) (λ p. record { place = record { field = p.0; rep = p.1.0; comp = p.1.1.0; sub = p.1.1.1.0 }; from = p.1.1.1.1.0; len = p.1.1.1.1.1 }) (λ _. refl)
 
 -- no number of the span's place is larger than the first of these, but its repetition, which isn't larger than the second, and no other than the third
-abbrev pub IsUpTo : ℕ → ℕ → ℕ → TextSpan → Type 0
-IsUpTo at reps most l = (l.place.field ≤ at) × (l.place.rep ≤ reps) × (l.place.comp ≤ at) × (l.place.sub ≤ at) × (l.from ≤ most) × (l.len ≤ most)
+abbrev pub IsUpTo : ℕ → ℕ → ℕ → ℕ → TextSpan → Type 0
+IsUpTo at reps most behind l = (l.place.field ≤ at) × (l.place.rep ≤ reps) × (l.place.comp ≤ at) × (l.place.sub ≤ reps) × (l.from ≤ behind) × (l.len ≤ most)
 
 -- spans of one width, and others
 abbrev pub all_said : {N : Type 0} → (N → TextSpan) → List N → List TextSpan → List TextSpan
@@ -33,7 +33,7 @@ abbrev pub AreOf : {N : Type 0} → (N → TextSpan) → ℕ → ℕ → List N 
 AreOf said from to narrow spans = (narrow ≡ []) ⊎ (map said narrow ≡ between from to spans)
 
 -- what a span of either of the narrower widths says
-abbrev pub message_span : NarrowSpan ℕ ℕ ℕ → TextSpan
+abbrev pub message_span : NarrowSpan ℕ ℕ ℕ ℕ → TextSpan
 message_span l = record { place = record { field = l.field; rep = l.rep; comp = l.comp; sub = l.sub }; from = l.from; len = l.len }
 
 -- those from this number on were put in the order of their places
