@@ -5,8 +5,7 @@ use Rattle.std.proofs.Math.Seq.{drop-append_seam}
 use Rattle.std.proofs.lemmas.List.Elements.{All-tail}
 use Rattle.gw_er7.specs.declared.spans.TextSpan.{TextSpan}
 use Rattle.gw_er7.specs.View.{Held, IsInside, AreInside, AreWithin, between, held_at, held}
-use Rattle.gw_er7.specs.declared.spans.NarrowSpan.{NarrowSpan}
-use Rattle.gw_er7.specs.own.Spans.{AreOf, message_span}
+use Rattle.gw_er7.specs.own.Spans.{AreOf}
 use Rattle.gw_er7.specs.own.Borrowed.{IsNumbered}
 use Rattle.gw_er7.proofs.Lying.{length-between, get_or-between}
 
@@ -50,20 +49,21 @@ module _ (bytes : List ℕ) (from to : ℕ) (ls : List TextSpan) (i : ℕ) (l : 
 
 -- ---- the same of spans that are kept as a slice
 
-are_narrow : (from to : ℕ) (ns : List (NarrowSpan ℕ ℕ)) (ls : List TextSpan) → AreOf message_span from to ns ls → 0 < length ns → map message_span ns ≡ between from to ls
-are_narrow from to ns ls (inl e) some = absurd (omega (arith, some, ap length e))
-are_narrow from to ns ls (inr e) some = e
+module _ {N : Type 0} (said : N → TextSpan) where
+  are_narrow : (from to : ℕ) (ns : List N) (ls : List TextSpan) → AreOf said from to ns ls → 0 < length ns → map said ns ≡ between from to ls
+  are_narrow from to ns ls (inl e) some = absurd (omega (arith, some, ap length e))
+  are_narrow from to ns ls (inr e) some = e
 
-module _ (bytes : List ℕ) (from to : ℕ) (ns : List (NarrowSpan ℕ ℕ)) (ls : List TextSpan) (i : ℕ) (d : NarrowSpan ℕ ℕ) (l : TextSpan) (now : List Held) (are : AreWithin bytes from to ls) (of : AreOf message_span from to ns ls) (view : between from to (held bytes ls) ≡ now) (lt : i < length ns) (is : l ≡ message_span (get_or ns i d)) where
-  same : map message_span ns ≡ between from to ls
-  same = are_narrow from to ns ls of (omega (arith, lt))
+module _ {N : Type 0} (said : N → TextSpan) (bytes : List ℕ) (from to : ℕ) (ns : List N) (ls : List TextSpan) (i : ℕ) (d : N) (l : TextSpan) (now : List Held) (are : AreWithin bytes from to ls) (of : AreOf said from to ns ls) (view : between from to (held bytes ls) ≡ now) (lt : i < length ns) (is : l ≡ said (get_or ns i d)) where
+  same : map said ns ≡ between from to ls
+  same = are_narrow said from to ns ls of (omega (arith, lt))
 
   narrow_before : from + i < to
-  narrow_before = omega (arith, lt, length-map ns message_span, ap length same, length-between from to ls are.bound, are.rising)
+  narrow_before = omega (arith, lt, length-map ns said, ap length same, length-between from to ls are.bound, are.rising)
 
   narrow_here : get_or ls (from + i) l ≡ l
   narrow_here =
-      sym (get_or-between from to ls i l narrow_before) ∙ ap (λ (ms : List TextSpan). get_or ms i l) (sym same) ∙ get_or-map message_span ns i d l lt ∙ sym is
+      sym (get_or-between from to ls i l narrow_before) ∙ ap (λ (ms : List TextSpan). get_or ms i l) (sym same) ∙ get_or-map said ns i d l lt ∙ sym is
 
   narrow_lt : i < length now
   narrow_lt = omega (arith, narrow_before, ap length view, length-between from to (held bytes ls) (omega (arith, are.bound, length-held bytes ls)))

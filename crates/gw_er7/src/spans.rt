@@ -1,13 +1,13 @@
 //! Where the texts of a message lie among its bytes.
 //!
-//! A text takes 12 bytes where the numbers of places fit 8 bits and the others 32, 24 where all fit 32, else 48.
-ghost use Rattle.std.specs.Prelude.{◌≡◌, ◌↔◌, ◌++◌, ◌≤◌, length, map, IsTrue, OnOk};
+//! A text takes 12 bytes where the numbers of places fit 8 bits and the others 32, 16 where those fit 20 and these 24, else 48.
+ghost use Rattle.std.specs.Prelude.{◌≡◌, ◌↔◌, ◌++◌, ◌<◌, ◌≤◌, length, map, IsTrue, OnOk};
 ghost use Rattle.std.specs.List.{AllZip};
 ghost use Rattle.std.specs.List.Sorted.{IsPermutation, IsSortedBy};
 ghost use Rattle.std.specs.Ordering.{nat_cmp, is_lt};
 ghost use Rattle.std.specs.Cmp.Lexicographic.{slice_cmp};
 ghost use Rattle.gw_er7.specs.Message.{numbers};
-ghost use Rattle.gw_er7.specs.own.Spans.{IsUpTo, AreSortedFrom};
+ghost use Rattle.gw_er7.specs.own.Spans.{IsUpTo, AreSortedFrom, lows, higher, low_of, middle_of, high_of};
 
 use crate::place::Place;
 use crate::search::compare_places;
@@ -23,82 +23,24 @@ pub(crate) struct TextSpan {
     pub(crate) len: usize,
 }
 
-/// The same in fewer bytes: the numbers of the place in one width, and the others in another.
+/// The same in 12 bytes.
 #[derive(Clone, Copy)]
-pub(crate) struct NarrowSpan<P, L> {
-    field: P,
-    rep: P,
-    comp: P,
-    sub: P,
-    from: L,
-    len: L,
+pub(crate) struct ShortSpan {
+    field: u8,
+    rep: u8,
+    comp: u8,
+    sub: u8,
+    from: u32,
+    len: u32,
 }
 
-/// A width of numbers: `said` is the number that one says, and `most` the largest that fits.
-pub(crate) trait Number: Copy {
-    ghost use Rattle.std.specs.Prelude.{◌≡◌, ◌≤◌, ◌↔◌, ℕ, IsTrue};
-
-    ghost said: { Self → ℕ };
-
-    ghost most: { ℕ };
-
-    /// Whether the number fits in this width.
-    fn fits(number: usize) -> bool
-        ensures { IsTrue result ↔ (number ≤ most) };
-
-    /// The number in this width.
-    fn narrowed(number: usize) -> Self
-        requires { number ≤ most }
-        ensures { said result ≡ number };
-
-    fn widened(self) -> usize
-        ensures { result ≡ said self };
-}
-
-impl Number for u8 {
-    ghost use Rattle.std.specs.Prelude.{◌-◌, ◌^◌};
-
-    ghost said = { λ number. number };
-
-    ghost most = { 2 ^ 8 - 1 };
-
-    #[inline(always)]
-    fn fits(number: usize) -> bool {
-        number <= u8::MAX as usize
-    }
-
-    #[inline(always)]
-    fn narrowed(number: usize) -> u8 {
-        number as u8
-    }
-
-    #[inline(always)]
-    fn widened(self) -> usize {
-        self as usize
-    }
-}
-
-impl Number for u32 {
-    ghost use Rattle.std.specs.Prelude.{◌-◌, ◌^◌};
-
-    ghost said = { λ number. number };
-
-    ghost most = { 2 ^ 32 - 1 };
-
-    #[inline(always)]
-    fn fits(number: usize) -> bool {
-        number <= u32::MAX as usize
-    }
-
-    #[inline(always)]
-    fn narrowed(number: usize) -> u32 {
-        number as u32
-    }
-
-    #[inline(always)]
-    fn widened(self) -> usize {
-        self as usize
-    }
+/// The same in 16 bytes.
+#[derive(Clone, Copy)]
+pub(crate) struct LongSpan {
+    /// Where the text begins, with the numbers of the field and the repetition.
+    from: u64,
+    /// How many bytes it has, with the numbers of the component and the subcomponent.
+    len: u64,
 }
 
 /// A width of spans: `said` is what one says, as a span of 48 bytes; the largest number of a place that fits is `farthest`, and of the others `largest`.
@@ -126,36 +68,35 @@ pub(crate) trait Width: Copy {
         ensures { result ≡ said self };
 }
 
-impl<P: Number, L: Number> Width for NarrowSpan<P, L> {
-    ghost said = { λ l. record {
-      place = record { field = P.said l.field; rep = P.said l.rep; comp = P.said l.comp; sub = P.said l.sub };
-      from = L.said l.from;
-      len = L.said l.len;
-    } };
+impl Width for ShortSpan {
+    ghost use Rattle.std.specs.Prelude.{◌-◌, ◌^◌};
+    ghost use Rattle.gw_er7.specs.own.Spans.{short_span};
 
-    ghost farthest = { P.most };
+    ghost said = { short_span };
 
-    ghost largest = { L.most };
+    ghost farthest = { 2 ^ 8 - 1 };
+
+    ghost largest = { 2 ^ 32 - 1 };
 
     #[inline(always)]
     fn fits(span: TextSpan) -> bool {
-        P::fits(span.place.field)
-            & P::fits(span.place.rep)
-            & P::fits(span.place.comp)
-            & P::fits(span.place.sub)
-            & L::fits(span.from)
-            & L::fits(span.len)
+        (span.place.field <= u8::MAX as usize)
+            & (span.place.rep <= u8::MAX as usize)
+            & (span.place.comp <= u8::MAX as usize)
+            & (span.place.sub <= u8::MAX as usize)
+            & (span.from <= u32::MAX as usize)
+            & (span.len <= u32::MAX as usize)
     }
 
     #[inline(always)]
-    fn narrowed(span: TextSpan) -> NarrowSpan<P, L> {
-        NarrowSpan {
-            field: P::narrowed(span.place.field),
-            rep: P::narrowed(span.place.rep),
-            comp: P::narrowed(span.place.comp),
-            sub: P::narrowed(span.place.sub),
-            from: L::narrowed(span.from),
-            len: L::narrowed(span.len),
+    fn narrowed(span: TextSpan) -> ShortSpan {
+        ShortSpan {
+            field: span.place.field as u8,
+            rep: span.place.rep as u8,
+            comp: span.place.comp as u8,
+            sub: span.place.sub as u8,
+            from: span.from as u32,
+            len: span.len as u32,
         }
     }
 
@@ -163,13 +104,99 @@ impl<P: Number, L: Number> Width for NarrowSpan<P, L> {
     fn widened(self) -> TextSpan {
         TextSpan {
             place: Place {
-                field: self.field.widened(),
-                rep: self.rep.widened(),
-                comp: self.comp.widened(),
-                sub: self.sub.widened(),
+                field: self.field as usize,
+                rep: self.rep as usize,
+                comp: self.comp as usize,
+                sub: self.sub as usize,
             },
-            from: self.from.widened(),
-            len: self.len.widened(),
+            from: self.from as usize,
+            len: self.len as usize,
+        }
+    }
+}
+
+/// Of three numbers in 64 bits the lowest has 24 bits, so it is below this.
+const LOWS: u64 = 16_777_216;
+
+/// Each of the two above it has 20 bits, so it is below this. A message of 1 MB has no place with a larger number.
+const HIGHER: u64 = 1_048_576;
+
+/// Three numbers in 64 bits.
+#[inline(always)]
+fn packed(low: usize, middle: usize, high: usize) -> u64
+    requires low { low < lows }
+    requires middle { middle < higher }
+    requires high { high < higher }
+    ensures low { low_of result ≡ low }
+    ensures middle { middle_of result ≡ middle }
+    ensures high { high_of result ≡ high }
+{
+    (high as u64 * HIGHER + middle as u64) * LOWS + low as u64
+}
+
+/// The lowest of three numbers in 64 bits.
+#[inline(always)]
+fn low(three: u64) -> usize
+    ensures { result ≡ low_of three }
+{
+    (three % LOWS) as usize
+}
+
+/// The one above it.
+#[inline(always)]
+fn middle(three: u64) -> usize
+    ensures { result ≡ middle_of three }
+{
+    (three / LOWS % HIGHER) as usize
+}
+
+/// The highest.
+#[inline(always)]
+fn high(three: u64) -> usize
+    ensures { result ≡ high_of three }
+{
+    (three / LOWS / HIGHER) as usize
+}
+
+impl Width for LongSpan {
+    ghost use Rattle.std.specs.Prelude.{◌-◌};
+    ghost use Rattle.gw_er7.specs.own.Spans.{long_span, lows, higher};
+
+    ghost said = { long_span };
+
+    ghost farthest = { higher - 1 };
+
+    ghost largest = { lows - 1 };
+
+    #[inline(always)]
+    fn fits(span: TextSpan) -> bool {
+        (span.place.field < HIGHER as usize)
+            & (span.place.rep < HIGHER as usize)
+            & (span.place.comp < HIGHER as usize)
+            & (span.place.sub < HIGHER as usize)
+            & (span.from < LOWS as usize)
+            & (span.len < LOWS as usize)
+    }
+
+    #[inline(always)]
+    fn narrowed(span: TextSpan) -> LongSpan {
+        LongSpan {
+            from: packed(span.from, span.place.field, span.place.rep),
+            len: packed(span.len, span.place.comp, span.place.sub),
+        }
+    }
+
+    #[inline(always)]
+    fn widened(self) -> TextSpan {
+        TextSpan {
+            place: Place {
+                field: middle(self.from),
+                rep: high(self.from),
+                comp: middle(self.len),
+                sub: high(self.len),
+            },
+            from: low(self.from),
+            len: low(self.len),
         }
     }
 }
@@ -538,11 +565,5 @@ impl<N: Width, L: Store> Store for Spans<N, L> {
     }
 }
 
-/// A span of a message in 12 bytes.
-pub(crate) type ShortSpan = NarrowSpan<u8, u32>;
-
-/// A span of a message in 24 bytes.
-pub(crate) type LongSpan = NarrowSpan<u32, u32>;
-
-/// The spans of a message: all in 12 bytes, in 24, or in 48.
+/// The spans of a message: all in 12 bytes, in 16, or in 48.
 pub(crate) type MessageSpans = Spans<ShortSpan, Spans<LongSpan, Vec<TextSpan>>>;

@@ -1,14 +1,14 @@
 //! Borrowed texts at places.
 ghost use Rattle.std.specs.Prelude.{◌≡◌, ◌+◌, ◌≤◌, length};
 ghost use Rattle.gw_er7.specs.View.{held_at};
-ghost use Rattle.gw_er7.specs.own.Spans.{AreOf, message_span};
+ghost use Rattle.gw_er7.specs.own.Spans.{AreOf, long_span};
 
 use crate::spans::{LongSpan, MessageSpans, ShortSpan, Store, TextSpan, Width};
 use crate::view::Value;
 use std::marker::Model;
 
 /// Borrowed texts at places: the spans from one number up to another, and the bytes in which their texts lie.
-/// Where they are in 12 bytes each, or in 24, they are kept as a slice too: so one is found by one test, or two.
+/// Where they are in 12 bytes each, or in 16, they are kept as a slice too: so one is found by one test, or two.
 #[derive(Drop)]
 pub(crate) struct Values<'a> {
     spans: &'a MessageSpans,
@@ -50,7 +50,7 @@ fn text_at(bytes: &[u8], span: TextSpan) -> Value<'_>
 #[inline(always)]
 fn long_between(spans: &MessageSpans, from: usize, to: usize) -> &[LongSpan]
     requires { from ≤ to }
-    ensures { AreOf message_span from to result.now spans.now }
+    ensures { AreOf long_span from to result.now spans.now }
 {
     match spans.wider() {
         Some(others) => others.narrow_between(from, to),
