@@ -109,6 +109,16 @@ impl<'a> Values<'a> {
         text_at(self.bytes, spans.at(self.from + i))
     }
 
+    // As `at`, of spans that are kept as no slice: few messages have them.
+    #[cold]
+    #[inline(never)]
+    fn far(&self, i: usize) -> Value<'a>
+        requires { i < length self.now }
+        ensures { (other : Held) → slice_index_or self.now i other ≡ record { place = result.place; text = result.text.now } }
+    {
+        self.at(i)
+    }
+
     /// The text of this number, from 0, with its place, where there is one.
     #[inline(always)]
     pub(crate) fn get(&self, i: usize) -> Option<Value<'a>>
@@ -123,6 +133,6 @@ impl<'a> Values<'a> {
         if i >= self.len() {
             return None;
         }
-        Some(self.at(i))
+        Some(self.far(i))
     }
 }
