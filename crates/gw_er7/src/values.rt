@@ -46,7 +46,7 @@ fn text_at(bytes: &[u8], span: TextSpan) -> Value<'_>
     }
 }
 
-// The spans from one number up to another, where they are in 24 bytes; else none.
+// The spans from one number up to another, where they are in 16 bytes; else none.
 #[inline(always)]
 fn long_between(spans: &MessageSpans, from: usize, to: usize) -> &[LongSpan]
     requires { from ≤ to }
