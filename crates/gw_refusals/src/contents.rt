@@ -141,6 +141,8 @@ enum Content {
     Read,
     ReadBlock,
     Write,
+    /// A text stands behind this many separators of one kind.
+    Far(u8, usize),
 }
 
 impl Call for Content {
@@ -149,6 +151,7 @@ impl Call for Content {
             Content::Read => read_refused(alloc, growth),
             Content::ReadBlock => read_block_refused(alloc, growth),
             Content::Write => write_refused(alloc, growth),
+            Content::Far(separator, count) => far_refused(alloc, *separator, *count, growth),
         }
     }
 }
@@ -208,9 +211,49 @@ fn write_refused(alloc: Global, growth: u32) -> Result<bool, Fail> {
     Ok(refused)
 }
 
+// A message with a text at a place of small numbers, and one behind this many separators.
+fn far(alloc: Global, separator: u8, count: usize) -> Result<Vec<u8>, AllocError> {
+    let mut content = Vec::new(alloc);
+    content.extend_from_slice(b"MSH|^~\\&\rPID|a")?;
+    for _ in 0..count {
+        content.push(separator)?;
+    }
+    content.extend_from_slice(b"b\r")?;
+    Ok(content)
+}
+
+// A copy of the message of these bytes.
+fn copy_of(alloc: Global, content: &[u8]) -> Result<Message, ReadFault> {
+    let message = read(alloc, content)?;
+    let copy = message.copy(alloc)?;
+    Ok(copy)
+}
+
+fn far_refused(alloc: Global, separator: u8, count: usize, growth: u32) -> Result<bool, Fail> {
+    let content = far(alloc, separator, count)?;
+    refuse(alloc, growth);
+    let (refused, message) = match copy_of(alloc, &content) {
+        Err(ReadFault::Memory) => (true, copy_of(alloc, &content)?),
+        result => (false, result?),
+    };
+    refuse(alloc, 0);
+    let written = write(alloc, &message)?;
+    holds(written.as_slice() == content.as_slice(), "another message")?;
+    Ok(refused)
+}
+
+// The last four take wider spans: a number of more than 8 bits, and one of more than 20.
 #[test]
 fn contents_refused(rt: HostRuntime) -> Result<(), Fail> {
-    for call in [Content::Read, Content::ReadBlock, Content::Write] {
+    for call in [
+        Content::Read,
+        Content::ReadBlock,
+        Content::Write,
+        Content::Far(b'|', 255),
+        Content::Far(b'~', 256),
+        Content::Far(b'^', 299),
+        Content::Far(b'~', 1_048_575),
+    ] {
         sweep(rt.alloc(), &call)?;
     }
     Ok(())

@@ -4,7 +4,7 @@ use crate::files::read_text;
 use crate::maps::parse_profile;
 use crate::places::PlaceLines;
 use crate::refusals::write_place;
-use crate::report::{DONE, REFUSED, print_if_none, write_all};
+use crate::report::{print_if_none, status_if, write_all};
 use clap::ArgMatches;
 use gw_er7::{Message, Place, ReadFault, read_block};
 use gw_mllp::{Decoder, FrameFault};
@@ -484,7 +484,7 @@ fn read_spelled<'a, R: Files + AllocGlobal>(
     Ok(Spelled { profile, lines })
 }
 
-/// Reports every breach of each message of a stream by a profile, and returns the status: done where each message conforms.
+/// Reports every breach of each message of a stream by a profile, and returns the status: done where there is a message and each conforms.
 pub(crate) fn report<'a, R: Files + AllocGlobal, I: Read, O: Write + IsTerminal, E: Write>(
     rt: &R,
     words: &ArgMatches<'a>,
@@ -512,8 +512,7 @@ pub(crate) fn report<'a, R: Files + AllocGlobal, I: Read, O: Write + IsTerminal,
     write_all(output, &out)?;
     reported?;
     print_if_none(errors, tally.messages);
-    if tally.conforming == tally.messages {
-        return Ok(DONE);
-    }
-    Ok(REFUSED)
+    Ok(status_if(
+        tally.messages > 0 && tally.conforming == tally.messages,
+    ))
 }
