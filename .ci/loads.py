@@ -1,0 +1,126 @@
+"""Trials of a gateway under load: what ends a round, senders that send faster than one takes, or don't take their answers. `.ci/gateways` plays them.
+"""
+import re
+import socket
+import struct
+import threading
+import time
+from concurrent.futures import ThreadPoolExecutor
+
+from gateway import REPORT, Receiver
+from loopback import ANSWERS, Differs, same
+
+# (nobody listens at this address)
+NOBODY = "127.0.0.1:1"
+HEADER = """segment MSH R 1..1
+  field 3 RE 0..1
+  field 9 R 1..1
+    comp 1 R len 3
+    comp 2 R len 3
+  field 10 R 1..1 len 20
+  field 11 R 1..1
+    comp 1 R len 1
+  field 12 R 1..1
+    comp 1 R len 5
+  field 18 RE 0..* len 16
+"""
+COPY = "segment MSH from MSH\n" + "".join(f"  copy {it} from MSH-{it}\n" for it in (3, 9, 10, 11, 12, 18))
+
+
+def plan_for(receivers, source=HEADER, target=HEADER, items=COPY):
+    """A plan that has each A01 sent to these receivers, by one map."""
+    lines = ["plan SMALL", *(f"receiver {name} {address}" for name, address in receivers.items()), "accept version 2.5.1", "accept processing P"]
+    lines += ["begin profile", "profile SOURCE", source + "stop", "begin profile", "profile TARGET", target + "stop"]
+    lines += ["begin map", "map SMALL from SOURCE to TARGET", items + "stop"]
+    return "\n".join([*lines, "route ADT A01 from SOURCE", *(f"  to {name} by SMALL" for name in receivers)]) + "\n"
+
+
+def message(name, event=b"A01", sender=b"", more=b""):
+    return b"\x0bMSH|^~\\&|%s||||||ADT^%s|%s|P|2.5.1\r%s\x1c\r" % (sender, event, name, more)
+
+
+def burst(gateway, receivers=20, senders=12, each=500):
+    """Messages come faster than a round ends, each for many receivers: all are answered AA, and wait for each receiver."""
+    (gateway.room / "plan").write_text(plan_for({"R%02d" % it: NOBODY for it in range(receivers)}))
+    gateway.start()
+
+    def send(at):
+        line, names = gateway.client(), [b"%c%07d" % (65 + at, it) for it in range(each)]
+        feeder = threading.Thread(target=line.send, args=(b"".join(map(message, names)),), daemon=True)
+        feeder.start()
+        answers = [line.block() for _ in names]
+        feeder.join(5)
+        line.finish()
+        return [it for it, answer in zip(names, answers) if b"MSA|AA|%s\r" % it not in (answer or b"")]
+
+    with ThreadPoolExecutor(senders) as pool:
+        same("messages that aren't answered AA", [], [it for each in pool.map(send, range(senders)) for it in each])
+    same("what waits", [senders * each] * receivers, gateway.waiting())
+    gateway.kill()
+
+
+def is_in_round(gateway, number):
+    """Waits until this round has begun."""
+    same("round", True, gateway.once(True, lambda: gateway.status()["round"] >= number))
+
+
+def many_sessions(gateway, most=101_000, at_once=100):
+    """A round ends after 100,000 sessions: each has a part of the ledger, until the round's end."""
+    (gateway.room / "plan").write_text(plan_for({"NOBODY": NOBODY}))
+    gateway.start()
+    gateway.until += 60
+    at, now = ("127.0.0.1", gateway.port), struct.pack("ii", 1, 0)
+    for done in range(0, most, at_once):
+        lines = [socket.create_connection(at, 5) for _ in range(at_once)]
+        for line in lines:
+            # (so that no port stays in use)
+            line.setsockopt(socket.SOL_SOCKET, socket.SO_LINGER, now)
+            line.close()
+        # (each has two lines)
+        with gateway.news:
+            gateway.news.wait_for(lambda: len(gateway.lines) >= 2 * done - 500, max(0, gateway.until - time.monotonic()))
+    is_in_round(gateway, 2)
+    same("an answer", True, b"MSA|AA|M|" in (gateway.ask([message(b"M")])[0] or b"").replace(b"\r", b"|"))
+    gateway.kill()
+
+
+def large_messages(gateway, receivers=60, size=1_000_000):
+    """A round ends after a number of bytes: its journal keeps each message, and a translation for each receiver."""
+    (gateway.room / "plan").write_text(plan_for({"NOBODY": NOBODY}).replace("accept version", "".join(f"receiver R{it} {NOBODY}\n" for it in range(receivers)) + "accept version"))
+    gateway.start()
+    line = gateway.client()
+    for at in range(12):
+        same("an answer", True, b"MSA|AA|M%d\r" % at in (line.ask([message(b"M%d" % at, sender=b"x" * size)])[0] or b""))
+    is_in_round(gateway, 2)
+    gateway.kill()
+
+
+def deaf(gateway, most=5):
+    """A sender takes none of its answers. At the end of a round it is waited for a second: the others are answered, and its session ends."""
+    gateway.play(WARDS=Receiver(), ARCHIVE=Receiver())
+    gateway.start()
+    line = gateway.client()
+    gateway.answered(line.ask([REPORT]), ANSWERS[:1])
+    with socket.socket() as mute:
+        mute.setsockopt(socket.SOL_SOCKET, socket.SO_RCVBUF, 4096)
+        mute.connect(("127.0.0.1", gateway.port))
+        mute.settimeout(1)
+        # (each is refused, and its sender's name is long, as it is in the answer)
+        block, sent = message(b"M", b"A99", b"x" * 10_000), 0
+        try:
+            while sent < 2_000:
+                mute.sendall(block)
+                sent += 1
+            raise Differs("its answers were taken")
+        except TimeoutError:
+            pass
+        same("swaps", [f"swapped {it + 1}\n" for it in range(20)], [gateway.tell("swap", "plan")[1] for _ in range(20)])
+        since = time.monotonic()
+        is_in_round(gateway, 2)
+        answer = line.ask([REPORT])[0]
+        if time.monotonic() - since > most:
+            raise Differs(f"the round, and an answer in the next, took {time.monotonic() - since:.1f} s")
+        same("the answer's code", [b"AA"], re.findall(rb"MSA\|(\w+)\|", answer))
+        gateway.wait("session 2: its sender didn't take an answer in time")
+        gateway.wait("session 2 ended: fault 3: the writer failed")
+    gateway.kill()
