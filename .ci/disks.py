@@ -10,6 +10,7 @@ import re
 import subprocess
 import time
 from concurrent.futures import ThreadPoolExecutor
+from pathlib import Path
 
 from gateway import LISTENS, REPORT, RESERVE, Receiver, control
 from loopback import LEFT, Differs, same
@@ -226,6 +227,59 @@ __attribute__((constructor)) static void begin(void) {
     for (; digits && *digits >= '0' && *digits <= '9'; digits++) from = from * 10 + (*digits - '0');
 }
 """
+
+
+# Notes in the file of NOTED, at each sync of a folder, its path and what it has then: a line for each, and an empty one behind them.
+NOTING = r"""
+typedef unsigned long size;
+extern long syscall(long, ...);
+extern char *getenv(const char *);
+enum { WRITE = 1, OPEN = 2, CLOSE = 3, FSYNC = 74, READLINK = 89, GETDENTS = 217, FOLDER = 0200000, APPEND = 02102 };
+static char held;
+static void put(int to, const char *text, long length) { syscall(WRITE, to, text, length), syscall(WRITE, to, "\n", 1L); }
+static long length_of(const char *text) { long length = 0; while (text[length]) length++; return length; }
+static void note(int file) {
+    static char entries[65536], path[4096];
+    char link[40] = "/proc/self/fd/", digits[12];
+    int at = 14, k = 0;
+    do digits[k++] = (char)('0' + file % 10); while (file /= 10);
+    while (k) link[at++] = digits[--k];
+    link[at] = 0;
+    int folder = (int)syscall(OPEN, link, (long)FOLDER);
+    if (folder < 0) return;
+    int to = (int)syscall(OPEN, getenv("NOTED"), (long)APPEND, 0600L);
+    put(to, path, syscall(READLINK, link, path, sizeof path));
+    for (long count; (count = syscall(GETDENTS, folder, entries, sizeof entries)) > 0;)
+        for (long it = 0; it < count; it += *(unsigned short *)(entries + it + 16))
+            put(to, entries + it + 19, length_of(entries + it + 19));
+    put(to, "", 0), syscall(CLOSE, to), syscall(CLOSE, folder);
+}
+int fsync(int file) {
+    int result = (int)syscall(FSYNC, file);
+    while (__atomic_test_and_set(&held, __ATOMIC_ACQUIRE));
+    note(file);
+    __atomic_clear(&held, __ATOMIC_RELEASE);
+    return result;
+}
+"""
+
+
+def entries_synced(gateway):
+    """Each file and folder that a gateway made was in its folder at a sync of that folder: else a power cut may take it away, with all that it has.
+    It makes some at its start, at an install, and where a receiver refuses a message."""
+    noted = gateway.room / "noted"
+    gateway.play(WARDS=Receiver(codes=[b"AE", b"AA"]), ARCHIVE=Receiver())
+    (gateway.room / "next").write_text((gateway.room / "plan").read_text().replace("ARCHIVE", "VAULT"))
+    gateway.start(env={"LD_PRELOAD": str(library_in(gateway.room, "noting", NOTING)), "NOTED": str(noted)})
+    gateway.ask([REPORT])
+    gateway.wait("receiver WARDS answered AE: the message is in folder/refused/WARDS.mllp")
+    same("install", (0, "installed 1\n"), gateway.tell("install", "next"))
+    had = {Path(it[0]).name: set(it[1:]) for it in (block.split("\n") for block in noted.read_text().strip().split("\n\n"))}
+    for folder in (gateway.folder, gateway.folder / "spool", gateway.folder / "refused"):
+        # (a socket is no file)
+        made = {it.name for it in folder.iterdir()} - {"control"}
+        same(f"what {folder.name} has, and had not when it was synced last", set(), made - had.get(folder.name, set()))
+    gateway.kill()
 
 
 def send_until_it_ends(gateway, failed, most):

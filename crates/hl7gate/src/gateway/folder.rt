@@ -162,13 +162,33 @@ impl Folder {
             Err(error) => return Err(unwritten(alloc, &name, &error)),
         };
         let path = String::from_str(alloc, path)?;
-        Ok(Folder {
+        let folder = Folder {
             path,
             is_new,
             reserve,
             log,
             lock,
-        })
+        };
+        match folder.sync_made(rt) {
+            Ok(()) => Ok(folder),
+            Err(error) => Err(unwritten(alloc, &folder.path, &error)),
+        }
+    }
+
+    /// Brings to the disk which files the folder of this name in it has.
+    pub(crate) fn sync<R: Files<File = File> + AllocGlobal>(
+        &self,
+        rt: &R,
+        name: &str,
+    ) -> io::Result<()> {
+        let path = format!(in rt.alloc(); "{}/{name}", self.path)?;
+        sync_folder(rt, &path)
+    }
+
+    // Brings to the disk what was made. (An earlier gateway may have been killed before it did so.)
+    fn sync_made<R: Files<File = File> + AllocGlobal>(&self, rt: &R) -> io::Result<()> {
+        sync_folder(rt, &self.path)?;
+        self.sync(rt, "refused")
     }
 
     // Makes the folders and the page. Says whether the folder of spools was made.

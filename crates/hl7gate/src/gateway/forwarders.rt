@@ -155,7 +155,7 @@ fn forward_to<
         + Eprint
         + AllocGlobal,
 >(hub: &Hub<'f, R>, outgoing: &Outgoing<'f>, to: &Destination, sent: &Cell<bool>) {
-    let refused = Refused::new(hub.rt.alloc(), &to.refused);
+    let refused = Refused::new(hub.folder, &to.refused);
     let mut outbox = Emptying::new(hub.rt, outgoing, &to.name, refused, sent);
     let mut forwarder = Forwarder {
         hub,

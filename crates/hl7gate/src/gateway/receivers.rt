@@ -188,7 +188,10 @@ impl<'f> Receivers<'f> {
                 receivers.push(to, spool)?;
             }
         }
-        Ok(receivers)
+        match folder.sync(rt, "spool") {
+            Ok(()) => Ok(receivers),
+            Err(error) => Err(unwritten(alloc, &folder.path, &error)),
+        }
     }
 
     fn push(&mut self, to: Destination, spool: Outgoing<'f>) -> Result<(), AllocError> {
@@ -245,7 +248,10 @@ pub(crate) fn prepare<
         keep_address(hub.rt, folder, &to)?;
         prepared.destinations.push(to)?;
     }
-    Ok(prepared)
+    match folder.sync(hub.rt, "spool") {
+        Ok(()) => Ok(prepared),
+        Err(error) => Err(unwritten(alloc, &folder.path, &error)),
+    }
 }
 
 impl<'f> Prepared<'f> {

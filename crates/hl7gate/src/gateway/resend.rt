@@ -246,6 +246,8 @@ pub(crate) fn resend<R: Wait + Clock + Files<File = File> + Eprint + AllocGlobal
     }
     let taken = format!(in alloc; "{}/refused/{name}.resent", hub.folder.path)?;
     let done = put_again(hub.rt, outgoing, &to.name, &to.refused, &taken);
+    // (so that no crash brings back what was taken away)
+    let _ = hub.folder.sync(hub.rt, "refused");
     if let Err(Unsent::Spool) = &done {
         hub.fail(RunFault::Write);
     }
