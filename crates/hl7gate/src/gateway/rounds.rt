@@ -29,7 +29,7 @@ use std::time::{Clock, Duration, Instant};
 const LONG: u64 = 50_000;
 
 /// After how many bytes of messages and translations it does: the journal keeps them.
-const LARGE: u64 = 536_870_912;
+const LARGE: u64 = 268_435_456;
 
 /// After how many sessions it does: each takes a part of the ledger.
 const SESSIONS: u64 = 100_000;
