@@ -73,7 +73,7 @@ abbrev leaf_place : LeafPlace
 leaf_place = record { comp = 1; sub = 1 }
 
 abbrev from : List ℕ → ℕ → raw.FieldPath
-from label number = record { path = label ∷ []; field = number }
+from label number = record { path = label ∷ []; field = number; takes_first = false }
 
 abbrev copies : ℕ → List ℕ → ℕ → raw.RuleValue
 copies line label number = record { line = line; field = number; making = raw.Copies (from label number) }

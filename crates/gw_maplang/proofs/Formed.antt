@@ -11,7 +11,7 @@ use Rattle.gw_maplang.specs.Shapes.{Field, Current, Leaf, Const, Copy, Lookup, D
 use Rattle.gw_maplang.specs.Columns.{WideRow, WideTable, behind_first, is_known}
 use Rattle.gw_maplang.specs.Lawful.{Lawful, LawfulLeaf, LawfulOthers, LawfulLeafValue, LawfulLeaves, LawfulCondition, LawfulFieldCondition, LawfulWalk, LawfulMaking, LawfulItems, LawfulDrop, places, rule_fields}
 use Rattle.gw_maplang.specs.Line.{Line, Begins, Language, Table, Rows, Else, Segment, Makes, At, Or, Each, End, Drops}
-use Rattle.gw_maplang.specs.Fault.{begun, at_last, with_row, with_other, wide_below, wide_tables, wide_names, wide_firsts, is_second, last_table, in_table, is_flat, OpenSegment, OpenRule, open_segment, open_rule, opened, with_field, with_place, depth, hollow, is_stray, is_early, is_unknown, is_bad, own_leaf, has_leaf, is_led, is_repeated, condition_of, asked_of, condition_in, is_hasty, is_bad_condition, is_misplaced, is_misplaced_leaf, is_made, is_placed, is_among, is_place}
+use Rattle.gw_maplang.specs.Fault.{begun, at_last, with_row, with_other, wide_below, wide_tables, wide_names, wide_firsts, is_second, last_table, in_table, is_flat, OpenSegment, OpenRule, open_segment, open_rule, opened, with_field, with_place, depth, hollow, is_stray, is_early, is_unknown, is_bad, own_leaf, has_leaf, is_led, is_repeated, condition_of, asked_of, condition_in, is_hasty_rule, is_bad_condition, is_misplaced, is_misplaced_leaf, is_made, is_placed, is_among, is_place}
 use Rattle.gw_maplang.specs.Value.{Parts, Levels, Head, head, head_of, no_parts, parts, own_or, with_others, with_leaves, rule_with, next, past, each_item, levels, drops}
 use Rattle.gw_maplang.specs.own.Widths.{LawfulWide, LawfulWides}
 use Rattle.gw_maplang.proofs.Among.{not_among, among_left, among_right, bytes_see, distinct_push, numbers_see, places_see}
@@ -102,10 +102,12 @@ condition_lawful (Some c) s b = record { place = s; each = all_of is_value c.val
 -- in the second language no leaf is one of a later language
 never_early : (second : Bool) (leaf : Leaf) → second ≡ true → is_early second leaf ≡ false
 never_early false leaf e = absurd (cc)
-never_early true (Const value) e = refl
-never_early true (Copy ref) e = refl
-never_early true (Lookup table ref) e = refl
-never_early true (Date digits ref) e = refl
+never_early true leaf e = refl
+
+first_alone : (a b c : Bool) → a && (b || c) ≡ false → a && b ≡ false
+first_alone false b c e = refl
+first_alone true false c e = refl
+first_alone true true c e = e
 
 walk_lawful : (w : Walk) → ShapedWalk w → is_bad_condition (asked_of w.condition) ≡ false → LawfulWalk w
 walk_lawful w s b = record { path = s.0; condition = by w.condition s.1 b }
@@ -127,8 +129,8 @@ module _ (names : List (List ℕ)) (second : Bool) (ts : List WideTable) (known 
   leaf_lawful repeated (Const value) s a e u b = not_false (is_value value) b
   leaf_lawful repeated (Copy (Field from place)) s a e u b = s
   leaf_lawful repeated (Copy (Current place)) s a e u b = (not_false repeated a, s)
-  leaf_lawful repeated (Lookup table (Field from place)) s a e u b = (table_known table e u, s.1)
-  leaf_lawful repeated (Lookup table (Current place)) s a e u b = (table_known table e u, (not_false repeated a, s.1))
+  leaf_lawful repeated (Lookup table (Field from place)) s a e u b = (table_known table (first_alone (not second) _ _ e) u, s.1)
+  leaf_lawful repeated (Lookup table (Current place)) s a e u b = (table_known table (first_alone (not second) _ _ e) u, (not_false repeated a, s.1))
   leaf_lawful repeated (Date digits (Field from place)) s a e u b = s
   leaf_lawful repeated (Date digits (Current place)) s a e u b = (s.0, (not_false repeated a, s.1))
 
@@ -195,8 +197,8 @@ parts_lawful names above (Segment at label source ∷ below) g = nothing_behind 
 parts_lawful names above (Makes rule ∷ below) g =
     let i = parts_lawful names (Makes rule ∷ above) below g.1 in
     let k = known names above (Makes rule ∷ below) g in
-    let c = neither (is_misplaced rule.field (open_segment above) || is_hasty (is_second above) (condition_of rule.making)) _ g.0.clear.0 in
-    let d = neither (is_misplaced rule.field (open_segment above)) (is_hasty (is_second above) (condition_of rule.making)) c.0 in
+    let c = neither (is_misplaced rule.field (open_segment above) || is_hasty_rule (is_second above) rule.making) _ g.0.clear.0 in
+    let d = neither (is_misplaced rule.field (open_segment above)) (is_hasty_rule (is_second above) rule.making) c.0 in
     let b = neither (is_bad_condition (condition_of rule.making)) _ g.0.clear.1.1.0 in
     record {
       others = λ led. tt;

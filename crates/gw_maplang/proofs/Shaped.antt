@@ -1,6 +1,6 @@
 -- What the words of a line say of it.
 use Rattle.std.proofs.Common.{◌≡◌, ℕ, ◌≤◌, ◌+◌, Bool, true, false, List, [], ◌∷◌, length, Option, Some, None, suc, refl, sym, ap, ◌∙◌, arith}
-use Rattle.std.specs.Prelude.{IfSome, codes, nat_le, if◌then◌else◌}
+use Rattle.std.specs.Prelude.{IfSome, codes, not, ◌&&◌, nat_le, if◌then◌else◌}
 use Rattle.std.specs.List.{AllByRecursion, list_all, slice_split, before_first, count_by}
 use Rattle.std.specs.Option.{option_map}
 use Rattle.std.proofs.lemmas.List.Splits.{length-slice_split}
@@ -15,7 +15,7 @@ use Rattle.gw_maplang.specs.Among.{Distinct}
 use Rattle.gw_maplang.specs.Columns.{behind_first, is_table_word}
 use Rattle.gw_maplang.specs.Shapes.{Path, FieldPath, Ref, Field, Current, Leaf, Const, Copy, Lookup, Date, LeafValue, Condition, FieldCondition, Walk, Making, Copies, Firsts, Repeats, Builds}
 use Rattle.gw_maplang.specs.Lawful.{LawfulPath, LawfulField, LawfulFieldPath, LawfulPlace, LawfulDrop, is_date_length, last_label, places}
-use Rattle.gw_maplang.specs.Line.{Line, Begins, Language, Table, Rows, Else, Segment, Makes, At, Or, Each, End, Drops, is_slash, is_dash, path_of, field_of, field_path, sub_of, place_of, place_or_first, field_ref, ref_of, dropped_field, drop_of, constant, plain_word, plain_at, text_at, some_bytes, texts, most_columns, some_texts, values_form, where_at, condition_form, condition_at, field_place, asked_at, field_condition_form, field_condition_at, walk_form, table_word, from_at, const_form, copy_form, lookup_form, date_length, date_from, date_form, leaf_of, leaf_form, own_leaves, map_form, language_form, table_form, row_form, else_form, source_behind, source_form, segment_form, made_from, chosen_from, copies_form, firsts_form, repeats_form, builds_form, at_form, or_form, each_form, group_form, drop_form, rule_form, keyword_form, form}
+use Rattle.gw_maplang.specs.Line.{Line, Begins, Language, Table, Rows, Else, Segment, Makes, At, Or, Each, End, Drops, is_slash, is_dash, path_of, field_of, field_path, sub_of, place_of, place_or_first, field_ref, ref_of, dropped_field, drop_of, constant, plain_word, plain_at, either_at, first_or_at, text_at, some_bytes, texts, most_columns, some_texts, values_form, where_at, condition_form, condition_at, field_place, asked_at, field_condition_form, field_condition_at, walk_form, table_word, from_at, const_form, copy_form, lookup_form, date_length, date_from, date_form, leaf_of, leaf_form, own_leaves, map_form, language_form, table_form, row_form, else_form, source_behind, source_form, segment_form, made_from, chosen_from, copies_form, firsts_form, repeats_form, builds_form, at_form, or_form, each_form, group_form, drop_form, rule_form, keyword_form, form}
 
 abbrev pub ShapedRef : Ref → Type 0
 ShapedRef (Field from place) = LawfulFieldPath from × LawfulPlace place
@@ -83,8 +83,8 @@ path_of_is bytes =
 field_of_is : (path : Path) (bytes : List ℕ) → IfSome (field_of path bytes) (LawfulField (last_label path))
 field_of_is path bytes = number_is _ 999 bytes
 
-field_path_is : (bytes : List ℕ) → IfSome (field_path bytes) LawfulFieldPath
-field_path_is bytes =
+field_path_is : (first : Bool) (bytes : List ℕ) → IfSome (field_path first bytes) LawfulFieldPath
+field_path_is first bytes =
     gives LawfulPath LawfulFieldPath (path_of (before_first is_dash bytes)) _ (path_of_is (before_first is_dash bytes))
     (λ path h. gives (λ _. Unit {0}) LawfulFieldPath (behind_first is_dash bytes) _ (any (behind_first is_dash bytes))
     (λ more u. gives (LawfulField (last_label path)) LawfulFieldPath (field_of path more) _ (field_of_is path more) (λ field k. record { path = h; field = k })))
@@ -111,19 +111,19 @@ place_or_first_is (Some bytes) = place_of_is bytes
 abbrev FieldPlaceIs : FieldPath × LeafPlace → Type 0
 FieldPlaceIs f = LawfulFieldPath f.0 × LawfulPlace f.1
 
-field_place_is : (bytes : List ℕ) → IfSome (field_place bytes) FieldPlaceIs
-field_place_is bytes =
-    gives LawfulFieldPath FieldPlaceIs (field_path (before_first is_dot bytes)) _ (field_path_is (before_first is_dot bytes))
+field_place_is : (first : Bool) (bytes : List ℕ) → IfSome (field_place first bytes) FieldPlaceIs
+field_place_is first bytes =
+    gives LawfulFieldPath FieldPlaceIs (field_path first (before_first is_dot bytes)) _ (field_path_is first (before_first is_dot bytes))
     (λ from h. gives LawfulPlace FieldPlaceIs (place_or_first (behind_first is_dot bytes)) _ (place_or_first_is (behind_first is_dot bytes)) (λ place k. (h, k)))
 
-field_ref_is : (bytes : List ℕ) → IfSome (field_ref bytes) ShapedRef
-field_ref_is bytes = map_gives FieldPlaceIs ShapedRef (field_place bytes) _ (field_place_is bytes) (λ f h. h)
+field_ref_is : (first : Bool) (bytes : List ℕ) → IfSome (field_ref first bytes) ShapedRef
+field_ref_is first bytes = map_gives FieldPlaceIs ShapedRef (field_place first bytes) _ (field_place_is first bytes) (λ f h. h)
 
-ref_of_is : (bytes : List ℕ) → IfSome (ref_of bytes) ShapedRef
-ref_of_is [] = tt
-ref_of_is (b ∷ bytes) =
-    either_gives ShapedRef (is_dot b) (option_map Current (place_of bytes)) (field_ref (b ∷ bytes))
-    (map_gives LawfulPlace ShapedRef (place_of bytes) Current (place_of_is bytes) (λ place h. h)) (field_ref_is (b ∷ bytes))
+ref_of_is : (first : Bool) (bytes : List ℕ) → IfSome (ref_of first bytes) ShapedRef
+ref_of_is first [] = tt
+ref_of_is first (b ∷ bytes) =
+    either_gives ShapedRef (is_dot b && not first) (option_map Current (place_of bytes)) (field_ref first (b ∷ bytes))
+    (map_gives LawfulPlace ShapedRef (place_of bytes) Current (place_of_is bytes) (λ place h. h)) (field_ref_is first (b ∷ bytes))
 
 dropped_field_is : (path : Path) (o : Option (List ℕ)) → IfSome (dropped_field path o) (λ f. IfSome f (LawfulField (last_label path)))
 dropped_field_is path None = tt
@@ -140,15 +140,22 @@ plain_at_is : {A : Type 0} (P : A → Type 0) (part : List ℕ → Option A) →
 plain_at_is P part h words =
     gives (λ _. Unit {0}) _ (plain_word words) _ (any (plain_word words)) (λ w u. gives P _ (part w.0) _ (h w.0) (λ x k. k))
 
+first_or_at_is : {A : Type 0} (P : A → Type 0) (part : Bool → List ℕ → Option A) → ((first : Bool) (bytes : List ℕ) → IfSome (part first bytes) P) → (words : List Word) → IfSome (first_or_at part words) (λ p. P p.0)
+first_or_at_is P part h words = by (behind (codes "first") words)
+  where
+    by : (o : Option (List Word)) → IfSome (either_at part o words) (λ p. P p.0)
+    by None = plain_at_is P (part false) (h false) words
+    by (Some more) = plain_at_is P (part true) (h true) more
+
 from_at_is : (words : List Word) → IfSome (from_at words) (λ p. LawfulFieldPath p.0)
 from_at_is words =
-    gives (λ _. Unit {0}) _ (behind (codes "from") words) _ (any (behind (codes "from") words)) (λ more u. plain_at_is LawfulFieldPath field_path field_path_is more)
+    gives (λ _. Unit {0}) _ (behind (codes "from") words) _ (any (behind (codes "from") words)) (λ more u. first_or_at_is LawfulFieldPath field_path field_path_is more)
 
 const_form_is : (words : List Word) → IfSome (const_form words) ShapedLeaf
 const_form_is words = gives (λ _. Unit {0}) ShapedLeaf (first_word words) _ (any (first_word words)) (λ w u. with_all_is ShapedLeaf w.1 (Const (constant (bytes_of w.0))) tt)
 
 copy_form_is : (words : List Word) → IfSome (copy_form words) ShapedLeaf
-copy_form_is words = gives (λ p. ShapedRef p.0) ShapedLeaf (plain_at ref_of words) _ (plain_at_is ShapedRef ref_of ref_of_is words) (λ ref h. with_all_is ShapedLeaf ref.1 (Copy ref.0) h)
+copy_form_is words = gives (λ p. ShapedRef p.0) ShapedLeaf (first_or_at ref_of words) _ (first_or_at_is ShapedRef ref_of ref_of_is words) (λ ref h. with_all_is ShapedLeaf ref.1 (Copy ref.0) h)
 
 table_word_is : (bytes : List ℕ) → IfSome (table_word bytes) (λ word. is_table_word word ≡ true)
 table_word_is bytes = chosen (λ word. is_table_word word ≡ true) (is_table_word bytes) bytes (λ e. e)
@@ -156,13 +163,13 @@ table_word_is bytes = chosen (λ word. is_table_word word ≡ true) (is_table_wo
 lookup_form_is : (words : List Word) → IfSome (lookup_form words) ShapedLeaf
 lookup_form_is words =
     gives (λ p. is_table_word p.0 ≡ true) ShapedLeaf (plain_at table_word words) _ (plain_at_is (λ word. is_table_word word ≡ true) table_word table_word_is words)
-    (λ table u. gives (λ p. ShapedRef p.0) ShapedLeaf (plain_at ref_of table.1) _ (plain_at_is ShapedRef ref_of ref_of_is table.1) (λ ref h. with_all_is ShapedLeaf ref.1 (Lookup table.0 ref.0) (u, h)))
+    (λ table u. gives (λ p. ShapedRef p.0) ShapedLeaf (first_or_at ref_of table.1) _ (first_or_at_is ShapedRef ref_of ref_of_is table.1) (λ ref h. with_all_is ShapedLeaf ref.1 (Lookup table.0 ref.0) (u, h)))
 
 date_length_is : (bytes : List ℕ) → IfSome (date_length bytes) (λ n. is_date_length n ≡ true)
 date_length_is bytes = gives (λ _. Unit {0}) (λ n. is_date_length n ≡ true) (number 4 14 bytes) _ (any (number 4 14 bytes)) (λ n u. chosen (λ k. is_date_length k ≡ true) (is_date_length n) n (λ e. e))
 
 date_from_is : (digits : ℕ) (words : List Word) → is_date_length digits ≡ true → IfSome (date_from digits words) ShapedLeaf
-date_from_is digits words u = gives (λ p. ShapedRef p.0) ShapedLeaf (plain_at ref_of words) _ (plain_at_is ShapedRef ref_of ref_of_is words) (λ ref h. with_all_is ShapedLeaf ref.1 (Date digits ref.0) (u, h))
+date_from_is digits words u = gives (λ p. ShapedRef p.0) ShapedLeaf (first_or_at ref_of words) _ (first_or_at_is ShapedRef ref_of ref_of_is words) (λ ref h. with_all_is ShapedLeaf ref.1 (Date digits ref.0) (u, h))
 
 date_form_is : (words : List Word) → IfSome (date_form words) ShapedLeaf
 date_form_is words =
@@ -228,7 +235,7 @@ language_form_is words = gives (λ _. Unit {0}) Shaped (behind (codes "2") words
 
 asked_at_is : (words : List Word) → IfSome (asked_at words) (λ p. FieldPlaceIs p.0)
 asked_at_is words =
-    gives (λ _. Unit {0}) _ (behind (codes "where") words) _ (any (behind (codes "where") words)) (λ more u. plain_at_is FieldPlaceIs field_place field_place_is more)
+    gives (λ _. Unit {0}) _ (behind (codes "where") words) _ (any (behind (codes "where") words)) (λ more u. plain_at_is FieldPlaceIs (field_place false) (field_place_is false) more)
 
 field_condition_form_is : (words : List Word) → IfSome (field_condition_form words) ShapedFieldCondition
 field_condition_form_is words =

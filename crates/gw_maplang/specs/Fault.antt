@@ -8,7 +8,7 @@ use Rattle.gw_lines.specs.Grammar.{Grammar}
 use Rattle.gw_maplang.specs.declared.fault.MapFault.{MapFault}
 use Rattle.gw_maplang.specs.declared.fault.MapFault.TheVariants.{Syntax, UnknownTable, BadConstant, Duplicate, TooDeep}
 use Rattle.gw_maplang.specs.declared.rule.LeafPlace.{LeafPlace}
-use Rattle.gw_maplang.specs.Shapes.{Current, Leaf, Const, Copy, Lookup, Date, LeafValue, Condition, FieldCondition, Walk, Making, Copies, Firsts, Repeats, Builds, RuleValue, TableValue}
+use Rattle.gw_maplang.specs.Shapes.{Ref, Field, Current, Leaf, Const, Copy, Lookup, Date, LeafValue, Condition, FieldCondition, Walk, Making, Copies, Firsts, Repeats, Builds, RuleValue, TableValue}
 use Rattle.gw_maplang.specs.Columns.{WideRow, WideTable, new_table, widened, all_columns, behind_first, is_known}
 use Rattle.gw_maplang.specs.Lawful.{least_field}
 use Rattle.gw_lines.specs.Spelled.{is_dot}
@@ -213,11 +213,21 @@ is_stray repeated (Lookup table (Current place)) = not repeated
 is_stray repeated (Date digits (Current place)) = not repeated
 is_stray repeated leaf = false
 
--- a date, or a column by its number, in the first language
+-- what is read is the first of several
+abbrev pub is_picked : Ref → Bool
+is_picked (Field from place) = from.takes_first
+is_picked (Current place) = false
+
+-- a leaf of the second language alone: a date, a column by its number, or the first of several
+abbrev pub is_later : Leaf → Bool
+is_later (Const value) = false
+is_later (Copy ref) = is_picked ref
+is_later (Lookup table ref) = is_some (behind_first is_dot table) || is_picked ref
+is_later (Date digits ref) = true
+
+-- such a leaf in the first language
 abbrev pub is_early : Bool → Leaf → Bool
-is_early second (Lookup table ref) = not second && is_some (behind_first is_dot table)
-is_early second (Date digits ref) = not second
-is_early second leaf = false
+is_early second leaf = not second && is_later leaf
 
 -- a table that doesn't stand above, or one without that column
 abbrev pub is_unknown : List WideTable → Leaf → Bool
@@ -250,6 +260,16 @@ condition_in (Some walk) = asked_of walk.condition
 abbrev pub is_hasty : Bool → Option Condition → Bool
 is_hasty second None = false
 is_hasty second (Some c) = not second
+
+-- the same of a rule that has a condition, or reads the first of several
+abbrev pub is_later_rule : Making → Bool
+is_later_rule (Copies from) = from.takes_first
+is_later_rule (Firsts from condition) = from.takes_first || is_some condition
+is_later_rule (Repeats from condition leaves) = from.takes_first || is_some condition
+is_later_rule (Builds leaves) = false
+
+abbrev pub is_hasty_rule : Bool → Making → Bool
+is_hasty_rule second making = not second && is_later_rule making
 
 -- a condition with a text that is no value
 abbrev pub is_bad_condition : Option Condition → Bool
@@ -301,7 +321,7 @@ segment_tests above at condition = (not (begun above) || is_hasty (is_second abo
 -- no segment above can hold this rule, or its language has no such rule
 abbrev pub is_misplaced_rule : List Line → RuleValue → Bool
 is_misplaced_rule above rule =
-    is_misplaced rule.field (open_segment above) || is_hasty (is_second above) (condition_of rule.making)
+    is_misplaced rule.field (open_segment above) || is_hasty_rule (is_second above) rule.making
     || list_any (λ l. is_stray false l.leaf || is_early (is_second above) l.leaf) (own_leaf rule.making)
 
 -- its leaf looks up in no table above

@@ -1,5 +1,5 @@
 -- The map that makes of each message of a profile the message itself, as far as the profile lists it.
-use Rattle.std.specs.Prelude.{◌≡◌, ℕ, if◌then◌else◌, List, [], ◌∷◌, Option, Some, None}
+use Rattle.std.specs.Prelude.{◌≡◌, ℕ, false, if◌then◌else◌, List, [], ◌∷◌, Option, Some, None}
 use Rattle.gw_profile.specs.declared.node.Node.{Node}
 use Rattle.gw_profile.specs.declared.node.SegNode.{SegNode}
 use Rattle.gw_profile.specs.Shapes as Profile
@@ -11,7 +11,7 @@ use Rattle.gw_maplang.specs.Seen.{with_item}
 
 -- a copy of the field of this number; the segment stands under its label
 abbrev pub copy_rule : List ℕ → ℕ → RuleValue
-copy_rule label number = record { line = 0; field = number; making = Copies (record { path = label ∷ []; field = number }) }
+copy_rule label number = record { line = 0; field = number; making = Copies (record { path = label ∷ []; field = number; takes_first = false }) }
 
 -- a copy of each field that isn't X
 abbrev pub field_rules : List ℕ → List Profile.FieldValue → List RuleValue

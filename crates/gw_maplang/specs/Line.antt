@@ -1,5 +1,5 @@
 -- The lines of a map, and the words of each.
-use Rattle.std.specs.Prelude.{ℕ, Bool, ◌||◌, ◌==◌, nat_le, if◌then◌else◌, List, [], ◌∷◌, length, Option, Some, None, codes}
+use Rattle.std.specs.Prelude.{ℕ, Bool, true, false, not, ◌&&◌, ◌||◌, ◌==◌, nat_le, if◌then◌else◌, List, [], ◌∷◌, length, Option, Some, None, codes}
 use Rattle.std.specs.List.{list_all, list_any, slice_split, before_first}
 use Rattle.std.specs.Option.{option_map}
 use Rattle.gw_lines.specs.Words.{Word}
@@ -43,13 +43,13 @@ path_of bytes = if list_all is_name (slice_split is_slash bytes) then Some (slic
 abbrev pub field_of : Path → List ℕ → Option ℕ
 field_of path bytes = number (least_field (last_label path)) 999 bytes
 
--- PATH-F
-abbrev pub field_path : List ℕ → Option FieldPath
-field_path bytes = do
+-- PATH-F, or first PATH-F
+abbrev pub field_path : Bool → List ℕ → Option FieldPath
+field_path first bytes = do
   path ← path_of (before_first is_dash bytes)
   more ← behind_first is_dash bytes
   field ← field_of path more
-  Some (record { path = path; field = field })
+  Some (record { path = path; field = field; takes_first = first })
 
 -- a subcomponent, 1 where none is said
 abbrev pub sub_of : Option (List ℕ) → Option ℕ
@@ -69,19 +69,19 @@ place_or_first None = Some (record { comp = 1; sub = 1 })
 place_or_first (Some bytes) = place_of bytes
 
 -- PATH-F, PATH-F.C or PATH-F.C.S
-abbrev pub field_place : List ℕ → Option (FieldPath × LeafPlace)
-field_place bytes = do
-  from ← field_path (before_first is_dot bytes)
+abbrev pub field_place : Bool → List ℕ → Option (FieldPath × LeafPlace)
+field_place first bytes = do
+  from ← field_path first (before_first is_dot bytes)
   place ← place_or_first (behind_first is_dot bytes)
   Some (from, place)
 
-abbrev pub field_ref : List ℕ → Option Ref
-field_ref bytes = option_map (λ f. Field f.0 f.1) (field_place bytes)
+abbrev pub field_ref : Bool → List ℕ → Option Ref
+field_ref first bytes = option_map (λ f. Field f.0 f.1) (field_place first bytes)
 
--- the same, or .C or .C.S
-abbrev pub ref_of : List ℕ → Option Ref
-ref_of [] = None
-ref_of (b ∷ bytes) = if is_dot b then option_map Current (place_of bytes) else field_ref (b ∷ bytes)
+-- the same, or .C or .C.S, of which no first is taken
+abbrev pub ref_of : Bool → List ℕ → Option Ref
+ref_of first [] = None
+ref_of first (b ∷ bytes) = if is_dot b && not first then option_map Current (place_of bytes) else field_ref first (b ∷ bytes)
 
 -- PATH or PATH-F
 abbrev pub dropped_field : Path → Option (List ℕ) → Option (Option ℕ)
@@ -119,6 +119,14 @@ plain_at part words = do
   w ← plain_word words
   x ← part w.0
   Some (x, w.1)
+
+-- the same, or such a word behind `first`
+abbrev pub either_at : {A : Type 0} → (Bool → List ℕ → Option A) → Option (List Word) → List Word → Option (A × List Word)
+either_at part None words = plain_at (part false) words
+either_at part (Some more) words = plain_at (part true) more
+
+abbrev pub first_or_at : {A : Type 0} → (Bool → List ℕ → Option A) → List Word → Option (A × List Word)
+first_or_at part words = either_at part (behind (codes "first") words) words
 
 -- VALUE, not yet tested
 abbrev pub text_at : List Word → Option (List ℕ × List Word)
@@ -171,11 +179,11 @@ values_form words = do
 abbrev pub table_word : List ℕ → Option (List ℕ)
 table_word bytes = if is_table_word bytes then Some bytes else None
 
--- from PATH-F
+-- from [first] PATH-F
 abbrev pub from_at : List Word → Option (FieldPath × List Word)
 from_at words = do
   more ← behind (codes "from") words
-  plain_at field_path more
+  first_or_at field_path more
 
 -- where C[.S]
 abbrev pub where_at : List Word → Option (LeafPlace × List Word)
@@ -199,7 +207,7 @@ condition_at (w ∷ words) = option_map Some (condition_form (w ∷ words))
 abbrev pub asked_at : List Word → Option ((FieldPath × LeafPlace) × List Word)
 asked_at words = do
   more ← behind (codes "where") words
-  plain_at field_place more
+  plain_at (field_place false) more
 
 -- where REF is VALUE ..
 abbrev pub field_condition_form : List Word → Option FieldCondition
@@ -226,17 +234,17 @@ const_form words = do
   w ← first_word words
   with_all w.1 (Const (constant (bytes_of w.0)))
 
--- copy REF
+-- copy [first] REF
 abbrev pub copy_form : List Word → Option Leaf
 copy_form words = do
-  ref ← plain_at ref_of words
+  ref ← first_or_at ref_of words
   with_all ref.1 (Copy ref.0)
 
--- lookup TABLE REF, lookup TABLE.K REF
+-- lookup TABLE [first] REF, lookup TABLE.K [first] REF
 abbrev pub lookup_form : List Word → Option Leaf
 lookup_form words = do
   table ← plain_at table_word words
-  ref ← plain_at ref_of table.1
+  ref ← first_or_at ref_of table.1
   with_all ref.1 (Lookup table.0 ref.0)
 
 abbrev pub date_length : List ℕ → Option ℕ
@@ -244,13 +252,13 @@ date_length bytes = do
   n ← number 4 14 bytes
   if is_date_length n then Some n else None
 
--- REF, behind date N
+-- [first] REF, behind date N
 abbrev pub date_from : ℕ → List Word → Option Leaf
 date_from digits words = do
-  ref ← plain_at ref_of words
+  ref ← first_or_at ref_of words
   with_all ref.1 (Date digits ref.0)
 
--- date N REF
+-- date N [first] REF
 abbrev pub date_form : List Word → Option Leaf
 date_form words = do
   digits ← plain_at date_length words
@@ -332,14 +340,14 @@ segment_form at words = do
   source ← source_form label.1
   Some (Segment at label.0 source)
 
--- N from PATH-F
+-- N from [first] PATH-F
 abbrev pub made_from : List Word → Option (ℕ × FieldPath)
 made_from words = do
   field ← number_at 999 words
   from ← from_at field.1
   with_all from.1 (field.0, from.0)
 
--- N from PATH-F [where C[.S] is VALUE ..]
+-- N from [first] PATH-F [where C[.S] is VALUE ..]
 abbrev pub chosen_from : List Word → Option (ℕ × FieldPath × Option Condition)
 chosen_from words = do
   field ← number_at 999 words
@@ -347,15 +355,15 @@ chosen_from words = do
   condition ← condition_at from.1
   Some (field.0, from.0, condition)
 
--- copy N from PATH-F
+-- copy N from [first] PATH-F
 abbrev pub copies_form : ℕ → List Word → Option Line
 copies_form at words = option_map (λ m. Makes (record { line = at; field = m.0; making = Copies m.1 })) (made_from words)
 
--- first N from PATH-F [where C[.S] is VALUE ..]
+-- first N from [first] PATH-F [where C[.S] is VALUE ..]
 abbrev pub firsts_form : ℕ → List Word → Option Line
 firsts_form at words = option_map (λ m. Makes (record { line = at; field = m.0; making = Firsts m.1 m.2 })) (chosen_from words)
 
--- repeat N from PATH-F [where C[.S] is VALUE ..]
+-- repeat N from [first] PATH-F [where C[.S] is VALUE ..]
 abbrev pub repeats_form : ℕ → List Word → Option Line
 repeats_form at words = option_map (λ m. Makes (record { line = at; field = m.0; making = Repeats m.1 m.2 [] })) (chosen_from words)
 

@@ -24,17 +24,20 @@ item_pattern second keyword =
     else if bytes_eq keyword (codes "drop") then codes "drop PATH[-F], outside groups and flats"
     else codes "map, table, row, else, segment, copy, first, repeat, build, at, group, flat, end or drop"
 
--- the same of the lines that choose repetitions, in the second language or the first
+-- the same of the lines that read a field, in the second language or the first
+abbrev pub copy_pattern : Bool → List ℕ
+copy_pattern second = if second then codes "copy N from [first] PATH-F, below a segment" else codes "copy N from PATH-F, below a segment"
+
 abbrev pub first_pattern : Bool → List ℕ
-first_pattern second = if second then codes "first N from PATH-F [where C[.S] is VALUE ..], below a segment" else codes "first N from PATH-F, below a segment"
+first_pattern second = if second then codes "first N from [first] PATH-F [where C[.S] is VALUE ..], below a segment" else codes "first N from PATH-F, below a segment"
 
 abbrev pub repeat_pattern : Bool → List ℕ
-repeat_pattern second = if second then codes "repeat N from PATH-F [where C[.S] is VALUE ..], below a segment" else codes "repeat N from PATH-F, below a segment"
+repeat_pattern second = if second then codes "repeat N from [first] PATH-F [where C[.S] is VALUE ..], below a segment" else codes "repeat N from PATH-F, below a segment"
 
 -- the same of the lines of rules and items
 abbrev pub rule_pattern : Bool → List ℕ → List ℕ
 rule_pattern second keyword =
-    if bytes_eq keyword (codes "copy") then codes "copy N from PATH-F, below a segment"
+    if bytes_eq keyword (codes "copy") then copy_pattern second
     else if bytes_eq keyword (codes "first") then first_pattern second
     else if bytes_eq keyword (codes "repeat") then repeat_pattern second
     else if bytes_eq keyword (codes "build") then codes "build N [LEAF], below a segment"

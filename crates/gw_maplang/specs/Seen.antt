@@ -40,7 +40,7 @@ abbrev pub path : Vec (Vec ℕ) → Path
 path p = items_all p.items
 
 abbrev pub field_path : field_paths.FieldPath → FieldPath
-field_path f = record { path = path f.path; field = f.field }
+field_path f = record { path = path f.path; field = f.field; takes_first = f.takes_first }
 
 abbrev pub ref : refs.Ref → Ref
 ref (refs.TheVariants.Field from place) = Field (field_path from) place

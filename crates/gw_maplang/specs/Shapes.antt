@@ -1,15 +1,16 @@
 -- The parts of a map, without where they lie in memory.
-use Rattle.std.specs.Prelude.{ℕ, if◌then◌else◌, List, [], ◌∷◌, Option, Some, None, bytes_eq}
+use Rattle.std.specs.Prelude.{ℕ, Bool, if◌then◌else◌, List, [], ◌∷◌, Option, Some, None, bytes_eq}
 use Rattle.gw_maplang.specs.declared.rule.LeafPlace.{LeafPlace}
 
 -- labels that lead to a segment or group, from the outermost on
 abbrev pub Path : Type 0
 Path = List (List ℕ)
 
--- a field of the segment to which the path leads
+-- a field of the one segment to which the path leads, or of the first where several may be there
 pub record FieldPath : Type 0 where
   pub path : Path
   pub field : ℕ
+  pub takes_first : Bool
 
 -- where a text is taken from: from the first repetition of a field, or from the current repetition of the field that is repeated
 pub data Ref : Type 0 where

@@ -63,6 +63,7 @@ fn same_field(alloc: Global, label: &[u8], number: u32) -> Result<Rule, AllocErr
         from: FieldPath {
             path,
             field: number,
+            takes_first: false,
         },
     }))
 }

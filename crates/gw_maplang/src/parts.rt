@@ -1,5 +1,5 @@
 //! Parts of a word: paths, fields and places. Then parts of a line, each with the words behind it.
-ghost use Rattle.std.specs.Prelude.{◌≡◌, ◌≤◌, ◌==◌, map, IfOk};
+ghost use Rattle.std.specs.Prelude.{◌≡◌, ◌≤◌, ◌==◌, false, map, IfOk};
 ghost use Rattle.std.specs.List.{list_all, slice_split, before_first, position};
 ghost use Rattle.std.specs.Option.{option_map};
 ghost use Rattle.gw_lines.specs.Seen.{word};
@@ -148,8 +148,12 @@ fn field_of(path: &[Vec<u8>], bytes: &[u8]) -> Option<u32>
 }
 
 // A field, by the path to its segment.
-fn field_path(alloc: Global, bytes: &[u8]) -> Result<Option<FieldPath>, AllocError>
-    ensures { IfOk result (λ f. option_map field_path f ≡ spec.field_path bytes.now) }
+fn field_path(
+    alloc: Global,
+    takes_first: bool,
+    bytes: &[u8],
+) -> Result<Option<FieldPath>, AllocError>
+    ensures { IfOk result (λ f. option_map field_path f ≡ spec.field_path takes_first bytes.now) }
 {
     let Some(path) = path_of(alloc, before_first_byte(b'-', bytes))? else {
         return Ok(None);
@@ -160,7 +164,11 @@ fn field_path(alloc: Global, bytes: &[u8]) -> Result<Option<FieldPath>, AllocErr
     let Some(field) = field_of(&path, more) else {
         return Ok(None);
     };
-    Ok(Some(FieldPath { path, field }))
+    Ok(Some(FieldPath {
+        path,
+        field,
+        takes_first,
+    }))
 }
 
 fn sub_of(said: Option<&[u8]>) -> Option<u32>
@@ -193,11 +201,12 @@ fn place_or_first(said: Option<&[u8]>) -> Option<LeafPlace>
 // A field, and a place in it; the first place if none is given.
 fn field_place(
     alloc: Global,
+    takes_first: bool,
     bytes: &[u8],
 ) -> Result<Option<(FieldPath, LeafPlace)>, AllocError>
-    ensures { IfOk result (λ found. option_map (λ f. (field_path f.0, f.1)) found ≡ spec.field_place bytes.now) }
+    ensures { IfOk result (λ found. option_map (λ f. (field_path f.0, f.1)) found ≡ spec.field_place takes_first bytes.now) }
 {
-    let Some(from) = field_path(alloc, before_first_byte(b'.', bytes))? else {
+    let Some(from) = field_path(alloc, takes_first, before_first_byte(b'.', bytes))? else {
         return Ok(None);
     };
     let Some(place) = place_or_first(after_first_byte(b'.', bytes)) else {
@@ -206,10 +215,14 @@ fn field_place(
     Ok(Some((from, place)))
 }
 
-fn field_ref(alloc: Global, bytes: &[u8]) -> Result<Option<Ref>, AllocError>
-    ensures { IfOk result (λ r. ref_some r ≡ spec.field_ref bytes.now) }
+fn field_ref(
+    alloc: Global,
+    takes_first: bool,
+    bytes: &[u8],
+) -> Result<Option<Ref>, AllocError>
+    ensures { IfOk result (λ r. ref_some r ≡ spec.field_ref takes_first bytes.now) }
 {
-    match field_place(alloc, bytes)? {
+    match field_place(alloc, takes_first, bytes)? {
         None => Ok(None),
         Some((from, place)) => Ok(Some(Ref::Field(from, place))),
     }
@@ -225,16 +238,16 @@ fn current(place: Option<LeafPlace>) -> Option<Ref>
 }
 
 // The source of a text.
-fn ref_of(alloc: Global, bytes: &[u8]) -> Result<Option<Ref>, AllocError>
-    ensures { IfOk result (λ r. ref_some r ≡ spec.ref_of bytes.now) }
+fn ref_of(alloc: Global, takes_first: bool, bytes: &[u8]) -> Result<Option<Ref>, AllocError>
+    ensures { IfOk result (λ r. ref_some r ≡ spec.ref_of takes_first bytes.now) }
 {
     match bytes {
         [] => Ok(None),
         [first, more @ ..] => {
-            if *first == b'.' {
+            if *first == b'.' && !takes_first {
                 return Ok(current(place_of(more)));
             }
-            field_ref(alloc, bytes)
+            field_ref(alloc, takes_first, bytes)
         }
     }
 }
@@ -287,16 +300,45 @@ pub(crate) fn path_at<'a, 'w>(
     }
 }
 
-fn field_at<'a, 'w>(
+fn plain_field<'a, 'w>(
     alloc: Global,
+    takes_first: bool,
     words: &'w [Word<'a>],
 ) -> Result<Option<(FieldPath, &'w [Word<'a>])>, AllocError>
-    ensures { IfOk result (λ found. option_map (λ w. (field_path w.0, map word w.1.now)) found ≡ spec.plain_at spec.field_path (map word words.now)) }
+    ensures { IfOk result (λ found. option_map (λ w. (field_path w.0, map word w.1.now)) found ≡ spec.plain_at (spec.field_path takes_first) (map word words.now)) }
 {
     let Some((bytes, more)) = plain_word(words) else {
         return Ok(None);
     };
-    match field_path(alloc, bytes)? {
+    match field_path(alloc, takes_first, bytes)? {
+        None => Ok(None),
+        Some(from) => Ok(Some((from, more))),
+    }
+}
+
+fn field_at<'a, 'w>(
+    alloc: Global,
+    words: &'w [Word<'a>],
+) -> Result<Option<(FieldPath, &'w [Word<'a>])>, AllocError>
+    ensures { IfOk result (λ found. option_map (λ w. (field_path w.0, map word w.1.now)) found ≡ spec.first_or_at spec.field_path (map word words.now)) }
+{
+    match behind(b"first", words) {
+        None => plain_field(alloc, false, words),
+        Some(more) => plain_field(alloc, true, more),
+    }
+}
+
+fn plain_ref<'a, 'w>(
+    alloc: Global,
+    takes_first: bool,
+    words: &'w [Word<'a>],
+) -> Result<Option<(Ref, &'w [Word<'a>])>, AllocError>
+    ensures { IfOk result (λ found. option_map (λ w. (ref w.0, map word w.1.now)) found ≡ spec.plain_at (spec.ref_of takes_first) (map word words.now)) }
+{
+    let Some((bytes, more)) = plain_word(words) else {
+        return Ok(None);
+    };
+    match ref_of(alloc, takes_first, bytes)? {
         None => Ok(None),
         Some(from) => Ok(Some((from, more))),
     }
@@ -306,14 +348,11 @@ pub(crate) fn ref_at<'a, 'w>(
     alloc: Global,
     words: &'w [Word<'a>],
 ) -> Result<Option<(Ref, &'w [Word<'a>])>, AllocError>
-    ensures { IfOk result (λ found. option_map (λ w. (ref w.0, map word w.1.now)) found ≡ spec.plain_at spec.ref_of (map word words.now)) }
+    ensures { IfOk result (λ found. option_map (λ w. (ref w.0, map word w.1.now)) found ≡ spec.first_or_at spec.ref_of (map word words.now)) }
 {
-    let Some((bytes, more)) = plain_word(words) else {
-        return Ok(None);
-    };
-    match ref_of(alloc, bytes)? {
-        None => Ok(None),
-        Some(from) => Ok(Some((from, more))),
+    match behind(b"first", words) {
+        None => plain_ref(alloc, false, words),
+        Some(more) => plain_ref(alloc, true, more),
     }
 }
 
@@ -413,12 +452,12 @@ pub(crate) fn field_place_at<'a, 'w>(
     alloc: Global,
     words: &'w [Word<'a>],
 ) -> Result<Option<((FieldPath, LeafPlace), &'w [Word<'a>])>, AllocError>
-    ensures { IfOk result (λ found. option_map (λ w. ((field_path w.0.0, w.0.1), map word w.1.now)) found ≡ spec.plain_at spec.field_place (map word words.now)) }
+    ensures { IfOk result (λ found. option_map (λ w. ((field_path w.0.0, w.0.1), map word w.1.now)) found ≡ spec.plain_at (spec.field_place false) (map word words.now)) }
 {
     let Some((bytes, more)) = plain_word(words) else {
         return Ok(None);
     };
-    match field_place(alloc, bytes)? {
+    match field_place(alloc, false, bytes)? {
         None => Ok(None),
         Some(asked) => Ok(Some((asked, more))),
     }

@@ -59,12 +59,22 @@ fn item_pattern(second: bool, keyword: &[u8]) -> &'static [u8]
     b"map, table, row, else, segment, copy, first, repeat, build, at, group, flat, end or drop"
 }
 
+// The pattern of the `copy` lines of a map in the second language, or in the first.
+fn copy_pattern(second: bool) -> &'static [u8]
+    ensures { result.now ≡ spec.copy_pattern second }
+{
+    if second {
+        return b"copy N from [first] PATH-F, below a segment";
+    }
+    b"copy N from PATH-F, below a segment"
+}
+
 // The pattern of the `first` lines of a map in the second language, or in the first.
 fn first_pattern(second: bool) -> &'static [u8]
     ensures { result.now ≡ spec.first_pattern second }
 {
     if second {
-        return b"first N from PATH-F [where C[.S] is VALUE ..], below a segment";
+        return b"first N from [first] PATH-F [where C[.S] is VALUE ..], below a segment";
     }
     b"first N from PATH-F, below a segment"
 }
@@ -74,7 +84,7 @@ fn repeat_pattern(second: bool) -> &'static [u8]
     ensures { result.now ≡ spec.repeat_pattern second }
 {
     if second {
-        return b"repeat N from PATH-F [where C[.S] is VALUE ..], below a segment";
+        return b"repeat N from [first] PATH-F [where C[.S] is VALUE ..], below a segment";
     }
     b"repeat N from PATH-F, below a segment"
 }
@@ -84,7 +94,7 @@ fn rule_pattern(second: bool, keyword: &[u8]) -> &'static [u8]
     ensures { result.now ≡ spec.rule_pattern second keyword.now }
 {
     if keyword == b"copy".as_slice() {
-        return b"copy N from PATH-F, below a segment";
+        return copy_pattern(second);
     }
     if keyword == b"first".as_slice() {
         return first_pattern(second);

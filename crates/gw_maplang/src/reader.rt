@@ -96,15 +96,34 @@ fn is_unknown(tables: &IndexMap<Vec<u8>, Wide>, made: &Leaf) -> bool
     }
 }
 
-fn is_early(second: bool, made: &Leaf) -> bool
-    ensures { result ≡ spec.is_early second (leaf made.now) }
+// Whether what is read is the first of several.
+fn is_picked(from: &Ref) -> bool
+    ensures { result ≡ spec.is_picked (ref from.now) }
+{
+    match from {
+        Ref::Field(from, _) => from.takes_first,
+        Ref::Current(_) => false,
+    }
+}
+
+// Whether only the second language has the leaf.
+fn is_later(made: &Leaf) -> bool
+    ensures { result ≡ spec.is_later (leaf made.now) }
 {
     match made {
         Leaf::Const(_) => false,
-        Leaf::Copy(_) => false,
-        Leaf::Lookup(name, _) => !second && after_first_byte(b'.', name).is_some(),
-        Leaf::Date(_, _) => !second,
+        Leaf::Copy(from) => is_picked(from),
+        Leaf::Lookup(name, from) => {
+            after_first_byte(b'.', name).is_some() || is_picked(from)
+        }
+        Leaf::Date(_, _) => true,
     }
+}
+
+fn is_early(second: bool, made: &Leaf) -> bool
+    ensures { result ≡ spec.is_early second (leaf made.now) }
+{
+    !second && is_later(made)
 }
 
 fn is_bad(made: &Leaf) -> bool
@@ -156,6 +175,24 @@ fn is_hasty(second: bool, asked: Option<&Condition>) -> bool
         None => false,
         Some(_) => !second,
     }
+}
+
+// Whether only the second language has the rule, but for its leaves.
+fn is_later_rule(made: &Rule) -> bool
+    ensures { result ≡ spec.is_later_rule (rule made.now).making }
+{
+    match made {
+        Rule::CopyField(made) => made.from.takes_first,
+        Rule::FirstRep(made) => made.from.takes_first || made.condition.is_some(),
+        Rule::RepeatField(made) => made.from.takes_first || made.condition.is_some(),
+        Rule::Build(_) => false,
+    }
+}
+
+fn is_hasty_rule(second: bool, made: &Rule) -> bool
+    ensures { result ≡ spec.is_hasty_rule second (rule made.now).making }
+{
+    !second && is_later_rule(made)
 }
 
 fn are_all_values(all: &[Vec<u8>]) -> bool
@@ -370,7 +407,7 @@ impl<'a> Reader<'a> {
         if is_misplaced(made.field(), &self.segment) {
             return true;
         }
-        if is_hasty(second, made.condition()) {
+        if is_hasty_rule(second, made) {
             return true;
         }
         any_stray(second, own_leaf(made))

@@ -2,11 +2,12 @@
 ghost use Rattle.std.specs.Prelude.{◌≡◌};
 ghost use Rattle.gw_maplang.specs.Seen.{condition_now, condition_some};
 
-/// A field of the source, by the path of its segment.
+/// A field of the source, by the path of its segment; `takes_first` if that is the first of several that may be there.
 #[derive(Drop)]
 pub struct FieldPath {
     pub path: Vec<Vec<u8>>,
     pub field: u32,
+    pub takes_first: bool,
 }
 
 /// A component and a subcomponent of a field.

@@ -92,10 +92,15 @@ abbrev pub segments_failures : List Element → ℕ → raw.Path → List Failur
 segments_failures scope line path =
     fails 1 (at_line line) (not (ends_at_segment scope (place_of scope path))) ++ fails 2 (at_line line) (not (is_single_place scope but_last (place_of scope path)))
 
--- of a path to the one segment that is read
+-- the steps that may not come often where a field is read: none where the first of several segments is
+abbrev pub read_steps : Bool → List ℕ → List ℕ
+read_steps first steps = if first then [] else steps
+
+-- of a path to the one segment that is read, or to the first of several
 abbrev pub read_failures : List Element → ℕ → raw.FieldPath → List Failure
 read_failures scope line from =
-    fails 1 (at_line line) (not (ends_at_segment scope (place_of scope from.path))) ++ fails 2 (at_line line) (not (is_single_place scope (λ steps. steps) (place_of scope from.path)))
+    fails 1 (at_line line) (not (ends_at_segment scope (place_of scope from.path)))
+    ++ fails 2 (at_line line) (not (is_single_place scope (read_steps from.takes_first) (place_of scope from.path)))
 
 abbrev pub ref_failures : List Element → ℕ → raw.Ref → List Failure
 ref_failures scope line (raw.Field from place) = read_failures scope line from

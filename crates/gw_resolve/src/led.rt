@@ -16,12 +16,12 @@ use crate::resolved::ScopePath;
 use gw_profile::{Card, Level};
 use std::alloc::{AllocError, Global};
 
-/// What a path is for: elements are walked, segments are walked, or the one segment is read.
+/// What a path is for: elements are walked, segments are walked, or the one segment is read, or the first of several.
 #[derive(Clone, Copy)]
 pub(crate) enum PathUse {
     Walk,
     WalkSegments,
-    Read,
+    Read(bool),
 }
 
 /// Where a path leads: a place that stands for none, and whether it leads to what is sought.
@@ -82,13 +82,20 @@ fn start_of<'a, 'p>(scope: &[ScopeNode<'a, 'p>], place: &ScopePath) -> Option<&'
     nodes_of(outer(scope, place.out)?)
 }
 
+// The steps that may not come often where a field is read: none if it is that of the first of several segments.
+fn read_steps(first: bool, steps: &[usize]) -> &[usize]
+    ensures { result.now ≡ spec.read_steps first steps.now }
+{
+    if first { &[] } else { steps }
+}
+
 // The steps that may not come often: of what is walked all but the last.
 fn single_steps(how: PathUse, steps: &[usize]) -> &[usize]
     ensures { result.now ≡ single_steps how steps.now }
 {
     match how {
         PathUse::Walk | PathUse::WalkSegments => but_last(steps),
-        PathUse::Read => steps,
+        PathUse::Read(first) => read_steps(first, steps),
     }
 }
 
@@ -128,7 +135,7 @@ fn leads(how: PathUse, scope: &[ScopeNode<'_, '_>], place: Option<&ScopePath>) -
 {
     match how {
         PathUse::Walk => place.is_some(),
-        PathUse::WalkSegments | PathUse::Read => ends_at_segment(scope, place),
+        PathUse::WalkSegments | PathUse::Read(_) => ends_at_segment(scope, place),
     }
 }
 

@@ -26,7 +26,8 @@ fn reference(
     ensures made { IfOk result (λ r. seen.reference r ≡ spec.reference (walked scope.now) (raw.field_path from.now)) }
     ensures failures { OnOk result (Notes found.old found.new (spec.read_failures (walked scope.now) line (raw.field_path from.now))) }
 {
-    let led = lead(alloc, found, scope, line, &from.path, PathUse::Read)?;
+    let how = PathUse::Read(from.takes_first);
+    let led = lead(alloc, found, scope, line, &from.path, how)?;
     Ok(Reference {
         place: led.place,
         field: from.field,

@@ -16,7 +16,7 @@ const LAST_OF_LABELS: u8 = 3;
 /// What each rule demands, and behind the colon what to do.
 const ADVICE: [&str; 12] = [
     "each path leads somewhere in the source: write its labels as the source profile has them; a field is read of a segment",
-    "what is read comes once: walk it by `segment .. from` or `flat each` and read below that, or read what comes once",
+    "what is read comes once: walk it by `segment .. from` or `flat each` and read below that, read what comes once, or take the `first`",
     "target labels stand at this level of the target profile and in its order, and those in a `flat` are one: move or rename the item",
     "no more than the target takes: of a field take `first`, of a segment or group walk what comes less often or leave an item out, or let the target profile take more",
     "what the target requires is always there: read what the source requires, or let the source profile require it or the target profile ask for less",

@@ -15,7 +15,7 @@ use Rattle.gw_resolve.specs.Failures.{Failure, at_line, fails}
 use Rattle.gw_resolve.specs.Order.{is_segment, is_group}
 use Rattle.gw_resolve.specs.declared.led.PathUse as uses
 use Rattle.gw_resolve.specs.declared.targets.NodeKind as kinds
-use Rattle.gw_resolve.specs.Naming.{has_label, itself, or_else, steps_of, place_of, place_or, but_last, has_place, ends_at_segment, is_single_place, condition_within, condition_failures}
+use Rattle.gw_resolve.specs.Naming.{has_label, itself, or_else, steps_of, place_of, place_or, but_last, has_place, ends_at_segment, is_single_place, read_steps, condition_within, condition_failures}
 
 abbrev pub further : ℕ → Place → Place
 further n place = record { out = n + place.out; steps = place.steps }
@@ -35,13 +35,13 @@ place_there p = option_map (λ (b : Bor places.ScopePath). place b.now) p
 abbrev pub single_steps : uses.PathUse → List ℕ → List ℕ
 single_steps uses.TheVariants.Walk = but_last
 single_steps uses.TheVariants.WalkSegments = but_last
-single_steps uses.TheVariants.Read = λ steps. steps
+single_steps (uses.TheVariants.Read first) = read_steps first
 
 -- a path leads to what is sought
 abbrev pub leads : uses.PathUse → List Element → Option Place → Bool
 leads uses.TheVariants.Walk scope place = has_place place
 leads uses.TheVariants.WalkSegments scope place = ends_at_segment scope place
-leads uses.TheVariants.Read scope place = ends_at_segment scope place
+leads (uses.TheVariants.Read first) scope place = ends_at_segment scope place
 
 abbrev pub lead_failures : uses.PathUse → List Element → ℕ → Path → List Failure
 lead_failures how scope line path =
