@@ -64,10 +64,7 @@ fn has_kept(words: &[Word]) -> bool
 }
 
 // The texts of at least one word, if none is kept.
-fn chosen_texts<'a>(
-    alloc: Global,
-    words: &[Word<'a>],
-) -> Result<Option<Vec<&'a [u8]>>, AllocError>
+fn chosen_texts<'a>(alloc: Global, words: &[Word<'a>]) -> Result<Option<Vec<&'a [u8]>>, AllocError>
     ensures { IfOk result (λ found. option_map (λ v. now_all v.items) found ≡ spec.chosen_texts (map word words.now)) }
 {
     if words.is_empty() || has_kept(words) {

@@ -215,11 +215,7 @@ fn field_place(
     Ok(Some((from, place)))
 }
 
-fn field_ref(
-    alloc: Global,
-    takes_first: bool,
-    bytes: &[u8],
-) -> Result<Option<Ref>, AllocError>
+fn field_ref(alloc: Global, takes_first: bool, bytes: &[u8]) -> Result<Option<Ref>, AllocError>
     ensures { IfOk result (λ r. ref_some r ≡ spec.field_ref takes_first bytes.now) }
 {
     match field_place(alloc, takes_first, bytes)? {
@@ -414,7 +410,10 @@ fn text_of(next: Word<'_>) -> Option<&[u8]>
 }
 
 /// The texts of these words, if each has a byte.
-pub(crate) fn texts<'a>(alloc: Global, words: &[Word<'a>]) -> Result<Option<Vec<&'a [u8]>>, AllocError>
+pub(crate) fn texts<'a>(
+    alloc: Global,
+    words: &[Word<'a>],
+) -> Result<Option<Vec<&'a [u8]>>, AllocError>
     ensures { IfOk result (λ found. option_map (λ v. now_all v.items) found ≡ spec.texts (map word words.now)) }
 {
     let mut all = Vec::new(alloc);
@@ -428,7 +427,10 @@ pub(crate) fn texts<'a>(alloc: Global, words: &[Word<'a>]) -> Result<Option<Vec<
 }
 
 /// The same of at least one word, and of no more than a table has columns.
-pub(crate) fn some_texts<'a>(alloc: Global, words: &[Word<'a>]) -> Result<Option<Vec<&'a [u8]>>, AllocError>
+pub(crate) fn some_texts<'a>(
+    alloc: Global,
+    words: &[Word<'a>],
+) -> Result<Option<Vec<&'a [u8]>>, AllocError>
     ensures { IfOk result (λ found. option_map (λ v. now_all v.items) found ≡ spec.some_texts (map word words.now)) }
 {
     if words.is_empty() || words.len() > MAX_COLUMNS {

@@ -113,9 +113,7 @@ fn is_later(made: &Leaf) -> bool
     match made {
         Leaf::Const(_) => false,
         Leaf::Copy(from) => is_picked(from),
-        Leaf::Lookup(name, from) => {
-            after_first_byte(b'.', name).is_some() || is_picked(from)
-        }
+        Leaf::Lookup(name, from) => { after_first_byte(b'.', name).is_some() || is_picked(from) }
         Leaf::Date(_, _) => true,
     }
 }

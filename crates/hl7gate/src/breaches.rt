@@ -512,7 +512,5 @@ pub(crate) fn report<'a, R: Files + AllocGlobal, I: Read, O: Write + IsTerminal,
     write_all(output, &out)?;
     reported?;
     print_if_none(errors, tally.messages);
-    Ok(status_if(
-        tally.messages > 0 && tally.conforming == tally.messages,
-    ))
+    Ok(status_if(tally.messages > 0 && tally.conforming == tally.messages))
 }
