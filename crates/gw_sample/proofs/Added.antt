@@ -106,7 +106,7 @@ made_lawful : (name : List ℕ) → IsName name → (ks : List Key) → AllByRec
 made_lawful name is [] h = builds.begun_segment name is
 made_lawful name is (k ∷ ks) h = kept_put (made name ks) k null (made_lawful name is ks h.1) h.0
 
-one_lawful : (tables : List (List ℕ)) (s : shapes.SegmentValue) → LawfulSegment tables s → IsSegment (one_of s)
+pub one_lawful : (tables : List (List ℕ)) (s : shapes.SegmentValue) → LawfulSegment tables s → IsSegment (one_of s)
 one_lawful tables s l = made_lawful s.name (name_of s.name l.named) (keys_of s.fields) (places_are tables s l).each
 
 -- the header alone is a message
@@ -114,7 +114,7 @@ pub header_message : (tables : List (List ℕ)) (s : shapes.SegmentValue) → La
 header_message tables s l h = (record { segment = one_lawful tables s l; name = h.name }, tt)
 
 -- a segment that isn't the header may follow
-follows : (m : List SegmentValue) (s : SegmentValue) → IsMessage m → IsOther s → IsMessage (m ++ s ∷ [])
+pub follows : (m : List SegmentValue) (s : SegmentValue) → IsMessage m → IsOther s → IsMessage (m ++ s ∷ [])
 follows [] s is other = absurd is
 follows (x ∷ m) s is other = (is.0, Each-append IsOther m (s ∷ []) is.1 (other, tt))
 

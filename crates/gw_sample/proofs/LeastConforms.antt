@@ -397,5 +397,3 @@ least_conforms p wf =
     let all : listed p.nodes m ≡ m = all_kept (λ s. stands p.nodes s.name) m (least_stands p.nodes (stands p.nodes) (λ x h. h)) in
     subst (Fit p (table_names p.tables) p.nodes) (sym all) (least_fits p (table_names p.tables) p.nodes wf.segments wf.groups)
 
-pub each_has_one : (p : ProfileValue) → WellFormed p → (m : List SegmentValue) × Conforms p m
-each_has_one p wf = (least p.nodes, least_conforms p wf)

@@ -1,6 +1,6 @@
 -- What a sample is (HL7 v2.5.1 chapter 2, 2.6 "Message construction rules" and 2.12: message profiles).
 use Rattle.std.specs.Prelude.{◌≡◌, ◌<◌, ◌⊎◌, ◌↔◌, List, length, Option, IfSome, IsNone}
-use Rattle.gw_er7.specs.Message.{SegmentValue}
+use Rattle.gw_er7.specs.Message.{SegmentValue, IsMessage}
 use Rattle.gw_er7.specs.Reading.{Reads}
 use Rattle.gw_er7.specs.Written.{written}
 use Rattle.gw_profile.specs.Shapes.{ProfileValue}
@@ -15,7 +15,7 @@ IsReadAgain m = Reads (written m) m
 
 -- a message that conforms to the profile
 abbrev pub HasOne : ProfileValue → Type 0
-HasOne p = (m : List SegmentValue) × Conforms p m
+HasOne p = (m : List SegmentValue) × IsMessage m × Conforms p m
 
 -- each message that conforms to the profile has more segments than a message that is read
 abbrev pub TooManySegments : ProfileValue → Type 0
