@@ -10,3 +10,5 @@ pub mod IdentityNamed
 pub mod IdentityFields
 pub mod IdentityLevels
 pub mod IdentityReads
+pub mod Reaching
+pub mod IdentityReached

@@ -7,7 +7,7 @@ use Rattle.gw_resolve.specs.Naming.{naming_failures, resolved}
 use Rattle.gw_check.specs.Reads.{SourceField, passed_over}
 use Rattle.gw_check.specs.Typed.{failures}
 
--- the rules 4 to 12 are looked at only where 1 to 3 hold
+-- the rules from the fourth on are looked at only where 1 to 3 hold
 abbrev pub all_failures : ProfileValue → ProfileValue → MapValue → List Failure
 all_failures source target map = or_later (naming_failures source target map) (failures source target (resolved source target map))
 

@@ -12,6 +12,7 @@ use Rattle.gw_resolve.specs.Failures.{Mark}
 use Rattle.gw_resolve.specs.Places.{Element}
 use Rattle.gw_profile.specs.Seen.{profile_value}
 use Rattle.gw_leaves.specs.Context.{ContextValue}
+use Rattle.gw_check.specs.Reached.{reached_failures}
 use Rattle.gw_check.specs.Levels.{node_failures, level_failures, items_failures, items_count}
 use Rattle.gw_resolve.specs.Resolved.{no_items}
 use Rattle.gw_resolve.specs.Seen.{Notes, with_item, all_items}
@@ -37,3 +38,10 @@ NotesItems s scope nodes is old new =
 abbrev pub NotesItem : ContextValue → List Element → Forest → Item → Vec declared.Failure → Vec declared.Failure → Type 0
 NotesItem s scope nodes i old new =
     Notes old new (items_failures (profile_value s.source) (profile_value s.target) scope nodes (with_item s.map.tables i no_items))
+
+-- with those of their conditions and alternatives
+abbrev pub NotesReachedAll : ContextValue → List Element → List Item → Vec declared.Failure → Vec declared.Failure → Type 0
+NotesReachedAll s scope is old new = Notes old new (reached_failures (profile_value s.source) scope (all_items s.map.tables is))
+
+abbrev pub NotesReached : ContextValue → List Element → Item → Vec declared.Failure → Vec declared.Failure → Type 0
+NotesReached s scope i old new = Notes old new (reached_failures (profile_value s.source) scope (with_item s.map.tables i no_items))

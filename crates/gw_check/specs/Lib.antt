@@ -3,6 +3,7 @@ pub mod Levels
 pub mod Sites
 pub mod Elements
 pub mod Reads
+pub mod Reached
 pub mod Typed
 pub mod Checked
 pub mod Found

@@ -111,6 +111,10 @@ m1 = sex_map 5 (row (codes "M") (codes "1") ∷ row (codes "F") (codes "2") ∷ 
 abbrev pub m4 : raw.MapValue
 m4 = sex_map 3 (row (codes "M") (codes "1") ∷ []) None
 
+-- where nothing reads or drops PID-5
+abbrev pub m6 : raw.MapValue
+m6 = record m1 { drops = dropped 10 3 ∷ [] }
+
 -- a profile without tables, of MSH and these nodes
 abbrev bare : List ℕ → Count → Forest → ProfileValue
 bare name count nodes = record { name = name; count = count; tables = []; nodes = msh [] nodes }
@@ -164,6 +168,42 @@ s3 = profiles.counted
 
 abbrev pub m5 : raw.MapValue
 m5 = plain (codes "M5") (codes "S2") (codes "S3") (item 3 (codes "PID") (codes "PID") (copies 4 (codes "PID") 5 ∷ []) raw.nothing)
+
+-- patients of a known sex, and a target that needs none
+abbrev pub known : ProfileValue
+known =
+    record {
+      name = codes "KNOWN";
+      count = Octets;
+      tables = record { name = codes "SEX"; values = codes "M" ∷ codes "F" ∷ [] } ∷ [];
+      nodes = msh [] (seg (codes "PID") R (card 1 1) (coded 8 R (card 1 1) (codes "SEX") ∷ []) nothing);
+    }
+
+abbrev pub listed : ProfileValue
+listed = bare (codes "LISTED") Octets (seg (codes "PID") O (card 0 1) (field 8 O (card 0 1) ∷ []) nothing)
+
+abbrev sex : raw.Leaf
+sex = raw.Copy (raw.Field (from (codes "PID") 8) leaf_place)
+
+-- those whose sex is this; their sex, or where it is absent that other leaf
+abbrev pub where_sex_is : List ℕ → raw.Leaf → raw.MapValue
+where_sex_is value other =
+    plain (codes "M7") (codes "KNOWN") (codes "LISTED")
+    (raw.segment
+    (record {
+      line = 3;
+      label = codes "PID";
+      source = Some (record { path = codes "PID" ∷ []; condition = Some (record { from = from (codes "PID") 8; condition = record { place = leaf_place; values = value ∷ [] } }) });
+      rules =
+          record { line = 4; field = 8; making = raw.Builds (record { line = 4; place = leaf_place; leaf = sex; others = record { line = 5; leaf = other } ∷ [] } ∷ []) } ∷ [];
+    })
+    raw.nothing)
+
+abbrev pub unknown_sex : raw.Leaf
+unknown_sex = raw.Const (codes "U")
+
+abbrev pub same_sex : raw.Leaf
+same_sex = sex
 
 -- the leaf of the name
 abbrev pub name_at : ℕ → Mark

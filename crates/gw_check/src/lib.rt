@@ -14,6 +14,7 @@ mod level;
 mod often;
 mod origins;
 mod overlooked;
+mod reached;
 mod rules;
 mod segments;
 mod site;

@@ -18,6 +18,7 @@ use crate::failure::least;
 use crate::inside::check_items;
 use crate::level::check_level;
 use crate::overlooked::{SourceUse, passed_over};
+use crate::reached::reach_items;
 use gw_leaves::MapContext;
 use gw_maplang::Map;
 use gw_profile::{Level, Profile};
@@ -67,7 +68,7 @@ struct Examined {
     items: Vec<Item>,
 }
 
-// Adds the failures of the rules 4 to 12; what the map makes of its source.
+// Adds the failures of the rules from the fourth on; what the map makes of its source.
 fn add_failures(
     alloc: Global,
     found: &mut Vec<Failure>,
@@ -91,10 +92,11 @@ fn add_failures(
     check_items(alloc, found, context, &scope, items, nodes)?;
     let used = passed_over(alloc, whole, items, drops)?;
     note(found, 9, at_line(line), !used.unread.is_empty())?;
+    reach_items(alloc, found, context, &scope, items)?;
     Ok(used)
 }
 
-// What the rules 4 to 12 find in a map without labels.
+// What the rules from the fourth on find in a map without labels.
 fn find(
     alloc: Global,
     source: &Profile,
@@ -125,7 +127,7 @@ fn find(
     Ok(Findings { found, used })
 }
 
-// What the rules say of a map; 4 to 12 are looked at only where 1 to 3 hold.
+// What the rules say of a map; from the fourth on they are looked at only where 1 to 3 hold.
 fn look(
     alloc: Global,
     source: &Profile,
@@ -161,7 +163,7 @@ fn look(
 
 /// All failures of a map between two profiles, in the order of the definition; none where the map is allowed.
 ///
-/// The rules 4 to 12 are looked at only where 1 to 3 hold. It takes time by the sizes of the profiles and the map. The one error is allocation failure.
+/// The rules from the fourth on are looked at only where 1 to 3 hold. It takes time by the sizes of the profiles and the map. The one error is allocation failure.
 pub fn failures(
     alloc: Global,
     source: &Profile,

@@ -2,3 +2,4 @@ pub mod Inserted
 pub mod Comparing
 pub mod Presences
 pub mod Fitting
+pub mod Filtered

@@ -5,12 +5,14 @@ ghost use Rattle.gw_leaves.specs.Leaves as spec;
 ghost use Rattle.gw_leaves.specs.own.Held.{known_value, others_value};
 ghost use Rattle.gw_profile.specs.Numbered.{some_field, some_comp, some_sub};
 ghost use Rattle.gw_leaves.specs.Uses.{sources_value, map_tables};
+ghost use Rattle.gw_resolve.specs.Resolved.{of_field};
 ghost use Rattle.gw_resolve.specs.Seen.{interval, reference, source as seen_source, leaf as seen_leaf, at_leaf};
 ghost use Rattle.gw_leaves.specs.declared.shape.Presence.TheVariants as presences;
 
 use crate::known::{Known, at_field, segment_at};
 use crate::shape::Presence;
 use crate::sources::Sources;
+use gw_maplang::LeafPlace;
 use gw_profile::{Card, CompShape, FieldShape, SubShape, Usage, comp_of, field_of, sub_of};
 use gw_resolve::{Alternative, At, Interval, Reference, ResolvedLeaf, Source};
 
@@ -113,15 +115,26 @@ fn reference_presence(sources: Sources<'_, '_, '_, '_, '_>, from: &Reference) ->
     field_presence(known, field_of(known.fields, from.field))
 }
 
+/// Of the text at this place of the first repetition of a field.
+pub(crate) fn place_presence(
+    sources: Sources<'_, '_, '_, '_, '_>,
+    from: &Reference,
+    at: LeafPlace,
+) -> Presence
+    ensures { result ≡ (spec.source_shape (sources_value sources.entry) (of_field (reference from.now) at.comp at.sub)).presence }
+{
+    both(
+        reference_presence(sources, from),
+        rep_presence(at_field(sources, from), at.comp, at.sub),
+    )
+}
+
 /// Of the text of a source.
 pub(crate) fn source_presence(sources: Sources<'_, '_, '_, '_, '_>, source: &Source) -> Presence
     ensures { result ≡ (spec.source_shape (sources_value sources.entry) (seen_source source.now)).presence }
 {
     match source {
-        Source::OfField(from, at) => both(
-            reference_presence(sources, from),
-            rep_presence(at_field(sources, from), at.comp, at.sub),
-        ),
+        Source::OfField(from, at) => place_presence(sources, from, *at),
         Source::OfCurrent(at) => rep_presence(sources.current, at.comp, at.sub),
     }
 }
@@ -136,8 +149,8 @@ fn perhaps(presence: Presence) -> Presence
     }
 }
 
-// Of the text of a leaf.
-fn leaf_presence(sources: Sources<'_, '_, '_, '_, '_>, leaf: &ResolvedLeaf) -> Presence
+/// Of the text of a leaf.
+pub(crate) fn leaf_presence(sources: Sources<'_, '_, '_, '_, '_>, leaf: &ResolvedLeaf) -> Presence
     ensures { result ≡ (spec.leaf_shape (sources_value sources.entry) (seen_leaf (map_tables sources.entry) leaf.now)).presence }
 {
     match leaf {

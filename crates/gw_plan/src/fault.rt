@@ -16,7 +16,7 @@ pub enum PlanFault {
     /// `number` is the number of the map's fault.
     #[error("line {line}: fault {number} of the map")]
     Map { line: u64, number: u8 },
-    /// The map breaks a rule of the checker, from 1 to 12.
+    /// The map breaks a rule of the checker, by its number from 1.
     #[error("line {line} breaks rule {rule} of maps")]
     Check { line: u64, rule: u8 },
     #[error("line {0} says again what stands already")]

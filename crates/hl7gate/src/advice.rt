@@ -14,7 +14,7 @@ use std::io::Write;
 const LAST_OF_LABELS: u8 = 3;
 
 /// What each rule demands, and behind the colon what to do.
-const ADVICE: [&str; 12] = [
+const ADVICE: [&str; 13] = [
     "each path leads somewhere in the source: write its labels as the source profile has them; a field is read of a segment",
     "what is read comes once: walk it by `segment .. from` or `flat each` and read below that, read what comes once, or take the `first`",
     "target labels stand at this level of the target profile and in its order, and those in a `flat` are one: move or rename the item",
@@ -27,6 +27,7 @@ const ADVICE: [&str; 12] = [
     "each value that is looked up has a row: add the row, or an `else`",
     "the target doesn't want this: leave the rule out",
     "a constant stands in the target's table and is no longer than the target takes: write another",
+    "a condition can hold, and an alternative can be reached: mend the value, or leave the line out",
 ];
 
 /// The file of a map, its text, and how many lines of the file come before it.
@@ -184,6 +185,8 @@ impl<'a, E: Write> Telling<'a, '_, E> {
         }
         if given.rule == 9 {
             self.print_unread();
+        } else if given.rule == 13 {
+            self.print_unreached(made, given.mark);
         } else if let Some(made) = made {
             let may_be_absent = given.rule == 5 && given.mark.field == 0;
             let site = if may_be_absent {

@@ -38,6 +38,7 @@ mod subjects;
 mod swaps;
 mod threads;
 mod tickets;
+mod unreached;
 
 use arguments::{parse, process_words};
 use clap::ArgMatches;

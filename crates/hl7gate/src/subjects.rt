@@ -69,7 +69,7 @@ fn absent_on_the_way<'a>(source: &Profile, from: &'a ElementPath) -> Option<&'a 
 }
 
 /// Whether this is what the `where` of an item reads: an item reads no other field.
-fn is_condition(site: &Site) -> bool {
+pub(crate) fn is_condition(site: &Site) -> bool {
     site.target.field == 0 && read_of(site).is_some_and(|from| from.field > 0)
 }
 
@@ -114,7 +114,7 @@ fn or_field(named: Named<'_>) -> Named<'_> {
 }
 
 /// Reports how long a text of an element may be, by the count of its profile.
-fn print_length<E: Write>(errors: &mut E, named: Named<'_>) {
+pub(crate) fn print_length<E: Write>(errors: &mut E, named: Named<'_>) {
     let unit = match named.profile.count() {
         Count::Octets => "octets",
         Count::Characters => "characters",
@@ -127,7 +127,7 @@ fn print_length<E: Write>(errors: &mut E, named: Named<'_>) {
 }
 
 /// Reports the table of an element.
-fn print_table<E: Write>(errors: &mut E, named: Named<'_>) {
+pub(crate) fn print_table<E: Write>(errors: &mut E, named: Named<'_>) {
     let profile = named.profile.name().escape_ascii();
     let _ = match named.table() {
         None => write!(errors, "{named} has no table in {profile}"),
@@ -140,7 +140,7 @@ fn print_table<E: Write>(errors: &mut E, named: Named<'_>) {
 
 impl<'a, E: Write> Telling<'a, '_, E> {
     /// What a `where` at the line asks for a value, where the whole of what it makes depends on that.
-    fn asked_by_where(&self, site: &'a Site, part: FailureSite) -> Option<Named<'a>> {
+    pub(crate) fn asked_by_where(&self, site: &'a Site, part: FailureSite) -> Option<Named<'a>> {
         let Refusal { sides, refused, .. } = self.refusal;
         let path = read_of(site)?;
         let field = Named::whole(&sides.source, &path.at, path.field);

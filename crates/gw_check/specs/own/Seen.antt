@@ -10,6 +10,7 @@ use Rattle.gw_resolve.specs.declared.resolved.Rule.{Rule}
 use Rattle.gw_resolve.specs.declared.resolved.Item.{Item}
 use Rattle.gw_resolve.specs.declared.resolved.LeftOut.{LeftOut}
 use Rattle.gw_resolve.specs.Failures.{Mark as Told, Failure, fails}
+use Rattle.gw_resolve.specs.Resolved.{FieldCondition}
 use Rattle.gw_resolve.specs.Intervals.{Interval, is_never, is_within}
 use Rattle.gw_resolve.specs.Seen.{mark, all_items, left_out}
 use Rattle.gw_leaves.specs.declared.sources.Sources.{Sources}
@@ -19,6 +20,7 @@ use Rattle.gw_check.specs.declared.often.Asked.{Asked}
 use Rattle.gw_check.specs.Answers.{unlabelled}
 use Rattle.gw_check.specs.Fields as spec
 use Rattle.gw_check.specs.Reads as reads
+use Rattle.gw_check.specs.Reached as reached
 use Rattle.gw_check.specs.Typed as typed
 
 -- ---- how often something comes
@@ -54,9 +56,13 @@ field_failures s holder rules = spec.field_failures (sources_value s) (target_va
 abbrev pub segment_failures : Sources → ℕ → List Rule → List FieldValue → List Failure
 segment_failures s holder rules = spec.segment_failures (sources_value s) (target_value s) holder (rules_value s rules)
 
+-- of the condition of an item at this line, in what it walks
+abbrev pub asked_failures : Sources → ℕ → Option FieldCondition → List Failure
+asked_failures s = reached.asked_failures (sources_value s)
+
 -- ---- a map
 
--- of the rules 4 to 12
+-- of the rules from the fourth on
 abbrev pub failures : ContextValue → List Item → List LeftOut → List Failure
 failures s items drops = typed.failures (profile_value s.source) (profile_value s.target) (unlabelled (map_value s.map) items drops)
 

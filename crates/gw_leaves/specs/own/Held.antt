@@ -1,8 +1,11 @@
 -- What is read at places and what it is read for, as the program holds it.
-use Rattle.std.specs.Prelude.{List, map, Option}
+use Rattle.std.specs.Prelude.{ℕ, Bool, true, List, [], map, Option, Some, None, unwrap_or}
 use denote.Ref.{Bor}
 use Rattle.gw_profile.specs.declared.shape.SubShape.{SubShape}
+use Rattle.gw_profile.specs.Fault.{is_among}
 use Rattle.gw_profile.specs.Numbered.{some_sub}
+use Rattle.gw_profile.specs.Shapes.{TableValue}
+use Rattle.gw_profile.specs.Value.{table_of}
 use Rattle.gw_profile.specs.Seen.{field, profile_value}
 use Rattle.gw_maplang.specs.Seen.{now}
 use Rattle.gw_resolve.specs.declared.resolved.Alternative as the_others
@@ -30,6 +33,11 @@ source_values s sub = sub_values (profile_value s.source) (some_sub sub)
 
 abbrev pub given_texts : ContextValue → LeafSource → Values
 given_texts s g = rowed s.map.tables (now g.rows) (source_values s g.sub)
+
+-- the text is a value of the table of this name, if one is named
+abbrev pub is_listed : List TableValue → Option (List ℕ) → List ℕ → Bool
+is_listed tables None text = true
+is_listed tables (Some name) text = is_among text (unwrap_or (table_of name tables) [])
 
 -- ---- the segment at a place
 

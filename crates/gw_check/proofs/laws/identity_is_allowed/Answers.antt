@@ -13,6 +13,7 @@ use Rattle.gw_check.specs.Checked.{all_failures}
 use Rattle.gw_check.proofs.IdentityNamed.{same, no_more, holds, from_the_first, paths_hold, targets_hold, items_are}
 use Rattle.gw_check.proofs.IdentityLevels.{levels_hold, items_hold}
 use Rattle.gw_check.proofs.IdentityReads.{reads_hold}
+use Rattle.gw_check.proofs.IdentityReached.{all_reached}
 use Rattle.gw_check.proofs.laws.identity_is_allowed.Goals as goal
 
 module _ (p : ProfileValue) (w : WellFormed p) where
@@ -29,7 +30,8 @@ module _ (p : ProfileValue) (w : WellFormed p) where
       no_more _ _
       (no_more _ _ (levels_hold (table_names p.tables) (the_whole p.nodes) [] 0 0 p.nodes (from_the_first p.nodes) w.distinct w.segments w.groups)
       (items_hold p (table_names p.tables) (the_whole p.nodes) [] 0 p.nodes (from_the_first p.nodes) w.distinct w.segments w.groups))
-      (holds 9 (at_line 0) _ (ap (λ l. not (length l == 0)) (reads_hold (sites (same 0 p.nodes)) [] [] [] 0 p.nodes (λ at field e. e))))
+      (no_more _ _ (holds 9 (at_line 0) _ (ap (λ l. not (length l == 0)) (reads_hold (sites (same 0 p.nodes)) [] [] [] 0 p.nodes (λ at field e. e))))
+      (all_reached p (the_whole p.nodes ∷ []) 0 p.nodes))
 
   identity_allowed : all_failures p p (identity p) ≡ []
   identity_allowed =
