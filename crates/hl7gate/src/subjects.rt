@@ -5,6 +5,7 @@ use crate::elements::{Named, node_at, print_interval};
 use crate::maps::ProfilePair;
 use crate::report::say;
 use gw_check::{ElementPath, Origin, Site, Taker, untaken};
+use gw_maplang::Table as Rows;
 use gw_profile::{Count, Profile, Usage, measure};
 use gw_resolve::{Failure, FailureSite};
 use std::collections::BTreeMap;
@@ -18,8 +19,16 @@ pub(crate) enum TakenBy<'a> {
     Length(Option<u32>),
 }
 
-/// What searches for a text that isn't taken found: by the source's table, the length up to which it is read, and what takes it.
-pub(crate) type Searches<'a> = BTreeMap<(&'a [u8], Option<u32>, TakenBy<'a>), Option<&'a [u8]>>;
+/// A search for a text that isn't taken: the source's table, the length up to which it is read, what takes it, and the table of the map in which it is looked up first.
+pub(crate) type Search<'a> = (
+    Option<&'a [u8]>,
+    Option<u32>,
+    TakenBy<'a>,
+    Option<&'a [u8]>,
+);
+
+/// What such searches found.
+pub(crate) type Searches<'a> = BTreeMap<Search<'a>, Option<&'a [u8]>>;
 
 /// The refusal of a map, and where it is reported.
 #[derive(Drop)]
@@ -138,6 +147,49 @@ pub(crate) fn print_table<E: Write>(errors: &mut E, named: Named<'_>) {
     };
 }
 
+// ---- texts that aren't taken
+
+/// Whether a table of the target, or its length, takes a text.
+fn takes(taker: Taker<'_>, text: &[u8]) -> bool {
+    match taker {
+        Taker::Table(table) => table.contains(text),
+        Taker::Rows(rows) => rows.second(text).is_some(),
+        Taker::Length(count, most) => {
+            most.is_none_or(|most| measure(count, text) <= u64::from(most))
+        }
+    }
+}
+
+/// Whether the source may have a text at an element.
+fn may_have(from: Named<'_>, text: &[u8]) -> bool {
+    let is_short = from
+        .len()
+        .is_none_or(|most| measure(from.profile.count(), text) <= u64::from(most));
+    let is_listed = from
+        .table()
+        .and_then(|name| from.profile.table(name))
+        .is_none_or(|table| table.contains(text));
+    is_short && is_listed
+}
+
+/// The first text that rows give for what the source may have at an element, and that isn't taken.
+fn ungiven<'a>(from: Named<'a>, rows: &'a Rows, taker: Taker<'_>) -> Option<&'a [u8]> {
+    for (first, second) in rows.rows() {
+        if may_have(from, first) && !takes(taker, second) {
+            return Some(second);
+        }
+    }
+    let other = rows.other()?;
+    let has_no_row = from.sub_shape().is_none_or(|shape| {
+        shape.table.is_none() || untaken(from.profile, shape, Taker::Rows(rows)).is_some()
+    });
+    if has_no_row && !takes(taker, other) {
+        Some(other)
+    } else {
+        None
+    }
+}
+
 impl<'a, E: Write> Telling<'a, '_, E> {
     /// What a `where` at the line asks for a value, where the whole of what it makes depends on that.
     pub(crate) fn asked_by_where(&self, site: &'a Site, part: FailureSite) -> Option<Named<'a>> {
@@ -198,27 +250,15 @@ impl<'a, E: Write> Telling<'a, '_, E> {
         }
     }
 
-    /// Reports what the map makes of a text, where it isn't copied.
-    fn print_change(&mut self, site: &Site) -> bool {
-        let _ = match &site.origin {
-            Origin::LookedUp(name, _) => {
-                write!(self.errors, ", looked up in {}", name.escape_ascii())
-            }
-            Origin::Dated(digits, _) => {
-                write!(
-                    self.errors,
-                    ", of which the map takes the first {digits} digits"
-                )
-            }
-            _ => return false,
-        };
-        true
-    }
-
-    /// The first text that the source lists for an element and that isn't taken. It is looked for once for all failures of the same tables.
-    fn untaken(&mut self, from: Named<'a>, by: TakenBy<'a>) -> Option<&'a [u8]> {
-        let from = from.sub_shape()?;
-        let search = (from.table.as_deref()?, from.len, by);
+    /// The first text that the source lists for an element and that isn't taken; where it is looked up in a table of the map, the first that this gives.
+    /// It is looked for once for all failures of the same tables.
+    fn untaken(
+        &mut self,
+        from: Named<'a>,
+        by: TakenBy<'a>,
+        rows: Option<&'a [u8]>,
+    ) -> Option<&'a [u8]> {
+        let search = (from.table(), from.len(), by, rows);
         if let Some(found) = self.searches.get(&search) {
             return *found;
         }
@@ -228,15 +268,18 @@ impl<'a, E: Write> Telling<'a, '_, E> {
             TakenBy::Rows(name) => Taker::Rows(refused.map.table(name)?),
             TakenBy::Length(most) => Taker::Length(sides.target.count(), most),
         };
-        let found = untaken(&sides.source, from, taker);
+        let found = match rows {
+            None => untaken(&sides.source, from.sub_shape()?, taker),
+            Some(name) => ungiven(from, refused.map.table(name)?, taker),
+        };
         // (what can't be kept is looked for anew)
         let _ = self.searches.insert(search, found);
         found
     }
 
-    /// Reports a text that the source lists and that isn't taken, where there is one.
-    fn print_untaken(&mut self, from: Named<'a>, by: TakenBy<'a>) {
-        if let Some(text) = self.untaken(from, by) {
+    /// Reports a text that isn't taken, where one is found.
+    fn print_untaken(&mut self, from: Named<'a>, by: TakenBy<'a>, rows: Option<&'a [u8]>) {
+        if let Some(text) = self.untaken(from, by, rows) {
             say(self.errors, b": ");
             say(self.errors, text);
             let why: &[u8] = match by {
@@ -248,8 +291,8 @@ impl<'a, E: Write> Telling<'a, '_, E> {
         }
     }
 
-    /// Reports the length that the target takes, or its table, and that of the source, and a text that only the source has.
-    fn print_values(&mut self, site: &Site, rule: u8, to: Named<'a>, from: Named<'a>) {
+    /// Reports the length that the target takes, or its table, and that of the source, and a text that the target doesn't take.
+    fn print_values(&mut self, site: &'a Site, rule: u8, to: Named<'a>, from: Named<'a>) {
         let by = if rule == 7 {
             print_length(self.errors, to);
             say(self.errors, b", and ");
@@ -261,8 +304,18 @@ impl<'a, E: Write> Telling<'a, '_, E> {
             print_table(self.errors, from);
             TakenBy::Table(to.table())
         };
-        if !self.print_change(site) {
-            self.print_untaken(from, by);
+        match &site.origin {
+            Origin::Dated(digits, _) => {
+                let _ = write!(
+                    self.errors,
+                    ", of which the map takes the first {digits} digits"
+                );
+            }
+            Origin::LookedUp(name, _) => {
+                let _ = write!(self.errors, ", looked up in {}", name.escape_ascii());
+                self.print_untaken(from, by, Some(name));
+            }
+            _ => self.print_untaken(from, by, None),
         }
     }
 
@@ -287,7 +340,7 @@ impl<'a, E: Write> Telling<'a, '_, E> {
             (6 | 7, Some(from), _) => self.print_values(site, rule, to, from),
             (10, Some(from), Origin::LookedUp(name, _)) => {
                 print_table(self.errors, from);
-                self.print_untaken(from, TakenBy::Rows(name));
+                self.print_untaken(from, TakenBy::Rows(name), None);
             }
             (12, _, Origin::Text(text)) => self.print_constant(text, to),
             (6 | 7 | 10 | 12, _, _) => {}
