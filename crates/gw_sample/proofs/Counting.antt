@@ -1,4 +1,4 @@
--- What is counted up to a cap: sums, products, the elements that have to come, and nodes one by one.
+-- What is counted up to a cap: sums, products, the texts that have to come, and nodes one by one.
 use Rattle.std.proofs.Common.{◌≡◌, ℕ, zero, suc, ◌+◌, ◌*◌, ◌<◌, ◌≤◌, inl, inr, List, [], ◌∷◌, ◌++◌, length, map, take, drop, get_or, sym, ap, ◌∙◌, arith, refl}
 use Rattle.std.specs.Prelude.{min}
 use Rattle.std.specs.List.{sum_by}
@@ -12,7 +12,7 @@ use Rattle.gw_profile.specs.declared.node.GroupNode.{GroupNode}
 use Rattle.gw_profile.specs.Seen.{segment_value, forest, node_forest}
 use Rattle.gw_profile.specs.Shapes.{Forest, nothing}
 use Rattle.gw_profile.proofs.Rows.{group_forest}
-use Rattle.gw_sample.specs.Elements.{of_segment, elements}
+use Rattle.gw_sample.specs.FewestTexts.{of_segment, fewest_texts}
 use Rattle.gw_sample.proofs.Added.{rest_is, past}
 
 -- ---- sums and products, up to a cap
@@ -37,23 +37,23 @@ product_capped cap (suc k) n each some e = elim (cases_lt n cap) [
       omega (arith, a, b))
 ]
 
--- ---- of the elements
+-- ---- of the texts
 
-pub elements_before : (n : Node) (rest : Forest) → elements (node_forest n rest) ≡ elements (node_forest n nothing) + elements rest
-elements_before (Seg s) rest = omega arith
-elements_before (Group' label usage card shape row) rest = omega arith
+pub texts_before : (n : Node) (rest : Forest) → fewest_texts (node_forest n rest) ≡ fewest_texts (node_forest n nothing) + fewest_texts rest
+texts_before (Seg s) rest = omega arith
+texts_before (Group' label usage card shape row) rest = omega arith
 
-pub segment_elements : (node : Node) (s : SegNode) (cap result : ℕ) → node ≡ Seg s → result ≡ min (of_segment (segment_value s)) cap → result ≡ min (elements (node_forest node nothing)) cap
-segment_elements node s cap result is e =
-    let n : elements (node_forest node nothing) ≡ of_segment (segment_value s) + 0 = ap (λ (m : Node). elements (node_forest m nothing)) is in
+pub segment_texts : (node : Node) (s : SegNode) (cap result : ℕ) → node ≡ Seg s → result ≡ min (of_segment (segment_value s)) cap → result ≡ min (fewest_texts (node_forest node nothing)) cap
+segment_texts node s cap result is e =
+    let n : fewest_texts (node_forest node nothing) ≡ of_segment (segment_value s) + 0 = ap (λ (m : Node). fewest_texts (node_forest m nothing)) is in
     omega (arith, n, e)
 
-pub group_elements : (node : Node) (g : GroupNode) (nodes : List Node) (cap each result : ℕ) → 0 < cap → node ≡ Group g → nodes ≡ g.nodes.items → each ≡ min (elements (forest nodes)) cap
-    → result ≡ min (g.card.min * each) cap → result ≡ min (elements (node_forest node nothing)) cap
-group_elements node g nodes cap each result some is items e r =
-    let n : elements (node_forest node nothing) ≡ g.card.min * elements (forest g.nodes.items) + 0 = ap elements (ap (λ (m : Node). node_forest m nothing) is ∙ group_forest g nothing) in
-    let o : g.card.min * elements (forest nodes) ≡ g.card.min * elements (forest g.nodes.items) = ap (λ (l : List Node). g.card.min * elements (forest l)) items in
-    let p = product_capped cap g.card.min (elements (forest nodes)) each some e in
+pub group_texts : (node : Node) (g : GroupNode) (nodes : List Node) (cap each result : ℕ) → 0 < cap → node ≡ Group g → nodes ≡ g.nodes.items → each ≡ min (fewest_texts (forest nodes)) cap
+    → result ≡ min (g.card.min * each) cap → result ≡ min (fewest_texts (node_forest node nothing)) cap
+group_texts node g nodes cap each result some is items e r =
+    let n : fewest_texts (node_forest node nothing) ≡ g.card.min * fewest_texts (forest g.nodes.items) + 0 = ap fewest_texts (ap (λ (m : Node). node_forest m nothing) is ∙ group_forest g nothing) in
+    let o : g.card.min * fewest_texts (forest nodes) ≡ g.card.min * fewest_texts (forest g.nodes.items) = ap (λ (l : List Node). g.card.min * fewest_texts (forest l)) items in
+    let p = product_capped cap g.card.min (fewest_texts (forest nodes)) each some e in
     omega (arith, n, o, p, r)
 
 -- ---- nodes one by one

@@ -22,7 +22,7 @@ use Rattle.gw_validate.specs.Breaches.{is_required, is_forbidden, is_null, Count
 use Rattle.gw_validate.specs.Conforming.{listed, Seq, Conforms}
 use Rattle.gw_validate.specs.Cuts.{Many}
 use Rattle.gw_validate.proofs.Names.{name_tells, equal_names}
-use Rattle.gw_sample.specs.own.Least.{Key, null, sub_keys, comp_keys, rep_keys, reps_keys, keys_of, entries_of, one_of, several_of, least}
+use Rattle.gw_sample.specs.own.Least.{Key, null, or_else, sub_keys, comp_keys, rep_keys, reps_keys, keys_of, entries_of, one_of, several_of, least}
 
 -- ---- the places of the texts
 
@@ -37,16 +37,52 @@ abbrev InSubs : List SubValue → ℕ → Type 0
 InSubs [] n = ⊥
 InSubs (s ∷ ss) n = ((is_required s.usage ≡ true) × (n ≡ s.number)) ⊎ InSubs ss n
 
+abbrev NoSubs : List SubValue → Type 0
+NoSubs ss = (n : ℕ) → InSubs ss n → ⊥
+
+abbrev InComp : CompValue → ℕ → Type 0
+InComp k n = ((n ≡ 100) × NoSubs k.subs) ⊎ InSubs k.subs n
+
 abbrev InComps : List CompValue → ℕ → ℕ → Type 0
 InComps [] c n = ⊥
-InComps (k ∷ ks) c n = ((is_required k.usage ≡ true) × (c ≡ k.number) × ((n ≡ 100) ⊎ InSubs k.subs n)) ⊎ InComps ks c n
+InComps (k ∷ ks) c n = ((is_required k.usage ≡ true) × (c ≡ k.number) × InComp k n) ⊎ InComps ks c n
+
+abbrev NoComps : List CompValue → Type 0
+NoComps ks = (c n : ℕ) → InComps ks c n → ⊥
 
 abbrev InRep : FieldValue → ℕ → ℕ → Type 0
-InRep v c n = ((c ≡ 100) × (n ≡ 1)) ⊎ InComps v.comps c n
+InRep v c n = ((c ≡ 100) × (n ≡ 1) × NoComps v.comps) ⊎ InComps v.comps c n
 
 abbrev InFields : List FieldValue → ℕ → ℕ → ℕ → ℕ → Type 0
 InFields [] f r c n = ⊥
 InFields (v ∷ vs) f r c n = ((f ≡ v.number) × (0 < r) × (r ≤ v.card.min) × InRep v c n) ⊎ InFields vs f r c n
+
+-- where there is none, the other one
+or_in : (key x : Key) (ks : List Key) → Among x (or_else key ks) → ((x ≡ key) × (ks ≡ [])) ⊎ Among x ks
+or_in key x [] (inl e) = inl (e, refl)
+or_in key x [] (inr a) = absurd a
+or_in key x (k ∷ ks) a = inr a
+
+or_out : (key x : Key) (ks : List Key) → Among x ks → Among x (or_else key ks)
+or_out key x [] a = absurd a
+or_out key x (k ∷ ks) a = a
+
+or_alone : (key : Key) (ks : List Key) → ks ≡ [] → Among key (or_else key ks)
+or_alone key ks e = subst (λ (l : List Key). Among key (or_else key l)) (sym e) (inl refl)
+
+none_among : (ks : List Key) (x : Key) → ks ≡ [] → Among x ks → ⊥
+none_among ks x e a = absurd (subst (Among x) e a)
+
+no_keys : (b : Bool) (ks : List Key) → (b ≡ true → ks ≡ []) → (if b then ks else []) ≡ []
+no_keys true ks h = h refl
+no_keys false ks h = refl
+
+both_empty : (ks ls : List Key) → ks ≡ [] → ls ≡ [] → ks ++ ls ≡ []
+both_empty ks ls e f = ap (λ (l : List Key). l ++ ls) e ∙ f
+
+is_or_not : (b : Bool) → (b ≡ true) ⊎ (b ≡ false)
+is_or_not true = inl refl
+is_or_not false = inr refl
 
 module _ (f r c n f' r' c' n' : ℕ) (e : f' ∷ r' ∷ c' ∷ n' ∷ [] ≡ f ∷ r ∷ c ∷ n ∷ []) where
   field_is : f' ≡ f
@@ -78,36 +114,100 @@ subs_out f r c (s ∷ ss) n (inl h) =
 subs_out f r c (s ∷ ss) n (inr h) =
     (among_append (if is_required s.usage then (f ∷ r ∷ c ∷ s.number ∷ []) ∷ [] else []) (subs_keys f r c ss) (f ∷ r ∷ c ∷ n ∷ [])).1 (inr (subs_out f r c ss n h))
 
+-- no key where none has to come, and the other way round
+no_subs : (f r c : ℕ) (ss : List SubValue) → NoSubs ss → subs_keys f r c ss ≡ []
+no_subs f r c [] h = refl
+no_subs f r c (s ∷ ss) h =
+    both_empty (sub_keys f r c s) (subs_keys f r c ss) (no_keys (is_required s.usage) ((f ∷ r ∷ c ∷ s.number ∷ []) ∷ []) (λ req. absurd (h s.number (inl (req, refl)))))
+    (no_subs f r c ss (λ n i. h n (inr i)))
+
+none_in : (f r c : ℕ) (ss : List SubValue) → subs_keys f r c ss ≡ [] → NoSubs ss
+none_in f r c ss e n i = none_among (subs_keys f r c ss) (f ∷ r ∷ c ∷ n ∷ []) e (subs_out f r c ss n i)
+
 comps_in : (f r : ℕ) (ks : List CompValue) (f' r' c' n' : ℕ) → Among (f' ∷ r' ∷ c' ∷ n' ∷ []) (comps_keys f r ks) → (f' ≡ f) × (r' ≡ r) × InComps ks c' n'
 comps_in f r [] f' r' c' n' h = absurd h
-comps_in f r (k ∷ ks) f' r' c' n' h = elim ((among_append (if is_required k.usage then (f ∷ r ∷ k.number ∷ 100 ∷ []) ∷ subs_keys f r k.number k.subs else []) (comps_keys f r ks) (f' ∷ r' ∷ c' ∷ n' ∷ [])).0 h) [
-  | inl a ↦ (let p = (among_if (is_required k.usage) ((f ∷ r ∷ k.number ∷ 100 ∷ []) ∷ subs_keys f r k.number k.subs) (f' ∷ r' ∷ c' ∷ n' ∷ [])).0 a in
-      elim p.1 [
-        | inl e ↦ (field_is f r k.number 100 f' r' c' n' e, rep_is f r k.number 100 f' r' c' n' e, inl (p.0, comp_is f r k.number 100 f' r' c' n' e, inl (sub_is f r k.number 100 f' r' c' n' e)))
+comps_in f r (k ∷ ks) f' r' c' n' h = elim ((among_append (comp_keys f r k) (comps_keys f r ks) (f' ∷ r' ∷ c' ∷ n' ∷ [])).0 h) [
+  | inl a ↦ (let key = f ∷ r ∷ k.number ∷ 100 ∷ [] in
+      let p = (among_if (is_required k.usage) (or_else key (subs_keys f r k.number k.subs)) (f' ∷ r' ∷ c' ∷ n' ∷ [])).0 a in
+      elim (or_in key (f' ∷ r' ∷ c' ∷ n' ∷ []) (subs_keys f r k.number k.subs) p.1) [
+        | inl e ↦ (let is = e.0 in
+            (field_is f r k.number 100 f' r' c' n' is, rep_is f r k.number 100 f' r' c' n' is, inl (p.0, comp_is f r k.number 100 f' r' c' n' is, inl (sub_is f r k.number 100 f' r' c' n' is, none_in f r k.number k.subs e.1))))
         | inr b ↦ (let q = subs_in f r k.number k.subs f' r' c' n' b in (q.0, q.1, inl (p.0, q.2, inr q.3)))
       ])
   | inr b ↦ (let p = comps_in f r ks f' r' c' n' b in (p.0, p.1, inr p.2))
 ]
 
+comp_out : (f r c : ℕ) (k : CompValue) (n : ℕ) → c ≡ k.number → InComp k n → Among (f ∷ r ∷ c ∷ n ∷ []) (or_else (f ∷ r ∷ k.number ∷ 100 ∷ []) (subs_keys f r k.number k.subs))
+comp_out f r c k n is (inl e) =
+    let key : Key = f ∷ r ∷ k.number ∷ 100 ∷ [] in
+    let subs : List Key = subs_keys f r k.number k.subs in
+    let same : f ∷ r ∷ c ∷ n ∷ [] ≡ key = ap (λ (i : ℕ). f ∷ r ∷ i ∷ n ∷ []) is ∙ ap (λ (i : ℕ). f ∷ r ∷ k.number ∷ i ∷ []) e.0 in
+    subst (λ (x : Key). Among x (or_else key subs)) (sym same) (or_alone key subs (no_subs f r k.number k.subs e.1))
+comp_out f r c k n is (inr b) =
+    let subs : List Key = subs_keys f r k.number k.subs in
+    or_out (f ∷ r ∷ k.number ∷ 100 ∷ []) (f ∷ r ∷ c ∷ n ∷ []) subs (subst (λ (i : ℕ). Among (f ∷ r ∷ i ∷ n ∷ []) subs) (sym is) (subs_out f r k.number k.subs n b))
+
 comps_out : (f r : ℕ) (ks : List CompValue) (c n : ℕ) → InComps ks c n → Among (f ∷ r ∷ c ∷ n ∷ []) (comps_keys f r ks)
 comps_out f r [] c n h = absurd h
 comps_out f r (k ∷ ks) c n (inl h) =
-    (among_append (if is_required k.usage then (f ∷ r ∷ k.number ∷ 100 ∷ []) ∷ subs_keys f r k.number k.subs else []) (comps_keys f r ks) (f ∷ r ∷ c ∷ n ∷ [])).1
-    (inl ((among_if (is_required k.usage) ((f ∷ r ∷ k.number ∷ 100 ∷ []) ∷ subs_keys f r k.number k.subs) (f ∷ r ∷ c ∷ n ∷ [])).1 (h.0, here h.2)))
-  where
-    here : (n ≡ 100) ⊎ InSubs k.subs n → Among (f ∷ r ∷ c ∷ n ∷ []) ((f ∷ r ∷ k.number ∷ 100 ∷ []) ∷ subs_keys f r k.number k.subs)
-    here (inl e) = inl (ap (λ (i : ℕ). f ∷ r ∷ i ∷ n ∷ []) h.1 ∙ ap (λ (i : ℕ). f ∷ r ∷ k.number ∷ i ∷ []) e)
-    here (inr b) = inr (subst (λ (i : ℕ). Among (f ∷ r ∷ i ∷ n ∷ []) (subs_keys f r k.number k.subs)) (sym h.1) (subs_out f r k.number k.subs n b))
+    (among_append (comp_keys f r k) (comps_keys f r ks) (f ∷ r ∷ c ∷ n ∷ [])).1
+    (inl ((among_if (is_required k.usage) (or_else (f ∷ r ∷ k.number ∷ 100 ∷ []) (subs_keys f r k.number k.subs)) (f ∷ r ∷ c ∷ n ∷ [])).1 (h.0, comp_out f r c k n h.1 h.2)))
 comps_out f r (k ∷ ks) c n (inr h) =
-    (among_append (if is_required k.usage then (f ∷ r ∷ k.number ∷ 100 ∷ []) ∷ subs_keys f r k.number k.subs else []) (comps_keys f r ks) (f ∷ r ∷ c ∷ n ∷ [])).1 (inr (comps_out f r ks c n h))
+    (among_append (comp_keys f r k) (comps_keys f r ks) (f ∷ r ∷ c ∷ n ∷ [])).1 (inr (comps_out f r ks c n h))
+
+-- a component that has to come has a text, and so has a repetition
+first_sub : (ss : List SubValue) → ((n : ℕ) × InSubs ss n) ⊎ NoSubs ss
+first_sub [] = inr (λ n h. h)
+first_sub (s ∷ ss) = by (is_or_not (is_required s.usage)) (first_sub ss)
+  where
+    by : (is_required s.usage ≡ true) ⊎ (is_required s.usage ≡ false) → ((n : ℕ) × InSubs ss n) ⊎ NoSubs ss → ((n : ℕ) × InSubs (s ∷ ss) n) ⊎ NoSubs (s ∷ ss)
+    by (inl req) rest = inl (s.number, inl (req, refl))
+    by (inr not) (inl p) = inl (p.0, inr p.1)
+    by (inr not) (inr none) = inr (λ n h. elim h [ inl i ↦ (let req = i.0 in absurd (cc)) | inr i ↦ none n i ])
+
+first_text : (k : CompValue) → (n : ℕ) × InComp k n
+first_text k = by (first_sub k.subs)
+  where
+    by : ((n : ℕ) × InSubs k.subs n) ⊎ NoSubs k.subs → (n : ℕ) × InComp k n
+    by (inl p) = (p.0, inr p.1)
+    by (inr none) = (100, inl (refl, none))
+
+first_comp : (ks : List CompValue) → ((c : ℕ) × (n : ℕ) × InComps ks c n) ⊎ NoComps ks
+first_comp [] = inr (λ c n h. h)
+first_comp (k ∷ ks) = by (is_or_not (is_required k.usage)) (first_comp ks)
+  where
+    by : (is_required k.usage ≡ true) ⊎ (is_required k.usage ≡ false) → ((c : ℕ) × (n : ℕ) × InComps ks c n) ⊎ NoComps ks → ((c : ℕ) × (n : ℕ) × InComps (k ∷ ks) c n) ⊎ NoComps (k ∷ ks)
+    by (inl req) rest = (let t = first_text k in inl (k.number, t.0, inl (req, refl, t.1)))
+    by (inr not) (inl p) = inl (p.0, p.1, inr p.2)
+    by (inr not) (inr none) = inr (λ c n h. elim h [ inl i ↦ (let req = i.0 in absurd (cc)) | inr i ↦ none c n i ])
+
+first_in : (v : FieldValue) → (c : ℕ) × (n : ℕ) × InRep v c n
+first_in v = by (first_comp v.comps)
+  where
+    by : ((c : ℕ) × (n : ℕ) × InComps v.comps c n) ⊎ NoComps v.comps → (c : ℕ) × (n : ℕ) × InRep v c n
+    by (inl p) = (p.0, p.1, inr p.2)
+    by (inr none) = (100, 1, inl (refl, refl, none))
+
+-- the same of a repetition
+no_comps : (f r : ℕ) (ks : List CompValue) → NoComps ks → comps_keys f r ks ≡ []
+no_comps f r [] h = refl
+no_comps f r (k ∷ ks) h =
+    let t = first_text k in
+    both_empty (comp_keys f r k) (comps_keys f r ks)
+    (no_keys (is_required k.usage) (or_else (f ∷ r ∷ k.number ∷ 100 ∷ []) (subs_keys f r k.number k.subs)) (λ req. absurd (h k.number t.0 (inl (req, refl, t.1)))))
+    (no_comps f r ks (λ c n i. h c n (inr i)))
+
+none_within : (f r : ℕ) (ks : List CompValue) → comps_keys f r ks ≡ [] → NoComps ks
+none_within f r ks e c n i = none_among (comps_keys f r ks) (f ∷ r ∷ c ∷ n ∷ []) e (comps_out f r ks c n i)
 
 reps_in : (k : ℕ) (v : FieldValue) (f' r' c' n' : ℕ) → Among (f' ∷ r' ∷ c' ∷ n' ∷ []) (reps_keys v k) → (f' ≡ v.number) × (0 < r') × (r' ≤ k) × InRep v c' n'
 reps_in zero v f' r' c' n' h = absurd h
 reps_in (suc r) v f' r' c' n' h = elim ((among_append (reps_keys v r) (rep_keys v (suc r)) (f' ∷ r' ∷ c' ∷ n' ∷ [])).0 h) [
   | inl b ↦ (let q = reps_in r v f' r' c' n' b in (q.0, q.1, omega (arith, q.2), q.3))
-  | inr a ↦ elim a [
-    | inl e ↦ (let is = rep_is v.number (suc r) 100 1 f' r' c' n' e in
-        (field_is v.number (suc r) 100 1 f' r' c' n' e, omega (arith, is), omega (arith, is), inl (comp_is v.number (suc r) 100 1 f' r' c' n' e, sub_is v.number (suc r) 100 1 f' r' c' n' e)))
+  | inr a ↦ elim (or_in (v.number ∷ suc r ∷ 100 ∷ 1 ∷ []) (f' ∷ r' ∷ c' ∷ n' ∷ []) (comps_keys v.number (suc r) v.comps) a) [
+    | inl p ↦ (let e = p.0 in
+        let is = rep_is v.number (suc r) 100 1 f' r' c' n' e in
+        (field_is v.number (suc r) 100 1 f' r' c' n' e, omega (arith, is), omega (arith, is), inl (comp_is v.number (suc r) 100 1 f' r' c' n' e, sub_is v.number (suc r) 100 1 f' r' c' n' e, none_within v.number (suc r) v.comps p.1)))
     | inr b ↦ (let q = comps_in v.number (suc r) v.comps f' r' c' n' b in (q.0, omega (arith, q.1), omega (arith, q.1), inr q.2))
   ]
 ]
@@ -117,8 +217,14 @@ reps_out zero v r c n some le h = absurd (omega (arith, some, le))
 reps_out (suc k) v r c n some le h = by (λ short. reps_out k v r c n some short h) (cases_lt r (suc k))
   where
     last : r ≡ suc k → InRep v c n → Among (v.number ∷ r ∷ c ∷ n ∷ []) (rep_keys v (suc k))
-    last e (inl i) = inl (ap (λ (j : ℕ). v.number ∷ j ∷ c ∷ n ∷ []) e ∙ ap (λ (j : ℕ). v.number ∷ suc k ∷ j ∷ n ∷ []) i.0 ∙ ap (λ (j : ℕ). v.number ∷ suc k ∷ 100 ∷ j ∷ []) i.1)
-    last e (inr i) = inr (subst (λ (j : ℕ). Among (v.number ∷ j ∷ c ∷ n ∷ []) (comps_keys v.number (suc k) v.comps)) (sym e) (comps_out v.number (suc k) v.comps c n i))
+    last e (inl i) =
+        let key : Key = v.number ∷ suc k ∷ 100 ∷ 1 ∷ [] in
+        let comps : List Key = comps_keys v.number (suc k) v.comps in
+        let is : v.number ∷ r ∷ c ∷ n ∷ [] ≡ key = ap (λ (j : ℕ). v.number ∷ j ∷ c ∷ n ∷ []) e ∙ ap (λ (j : ℕ). v.number ∷ suc k ∷ j ∷ n ∷ []) i.0 ∙ ap (λ (j : ℕ). v.number ∷ suc k ∷ 100 ∷ j ∷ []) i.1 in
+        subst (λ (x : Key). Among x (or_else key comps)) (sym is) (or_alone key comps (no_comps v.number (suc k) v.comps i.2))
+    last e (inr i) =
+        let comps : List Key = comps_keys v.number (suc k) v.comps in
+        or_out (v.number ∷ suc k ∷ 100 ∷ 1 ∷ []) (v.number ∷ r ∷ c ∷ n ∷ []) comps (subst (λ (j : ℕ). Among (v.number ∷ j ∷ c ∷ n ∷ []) comps) (sym e) (comps_out v.number (suc k) v.comps c n i))
 
     by : (r ≤ k → Among (v.number ∷ r ∷ c ∷ n ∷ []) (reps_keys v k)) → (r < suc k) ⊎ (suc k ≤ r) → Among (v.number ∷ r ∷ c ∷ n ∷ []) (reps_keys v (suc k))
     by earlier (inl lt) = (among_append (reps_keys v k) (rep_keys v (suc k)) (v.number ∷ r ∷ c ∷ n ∷ [])).1 (inl (earlier (omega arith)))
@@ -223,14 +329,14 @@ subs_meet p (s ∷ ss) low rise text there only _ (in_later b) =
 
 -- a component, where what is present of it is what it has to have
 module _ (p : ProfileValue) (tables : List (List ℕ)) (m : Texts) (f r : ℕ) where
-  comp_meets : (k : CompValue) → LawfulComp tables k → ((n : ℕ) → is_required k.usage ≡ true → (n ≡ 100) ⊎ InSubs k.subs n → text_of m f r k.number n ≡ null) → ((n : ℕ) → 0 < length (text_of m f r k.number n) → (is_required k.usage ≡ true) × ((n ≡ 100) ⊎ InSubs k.subs n)) → (spot : List ℕ) → CompBreach p m f r k spot → ⊥
-  comp_meets k lawful there only spot (comp_absent req none) = none (100, omega (arith, ap length (there 100 req (inl refl))))
+  comp_meets : (k : CompValue) → LawfulComp tables k → ((n : ℕ) → is_required k.usage ≡ true → InComp k n → text_of m f r k.number n ≡ null) → ((n : ℕ) → 0 < length (text_of m f r k.number n) → (is_required k.usage ≡ true) × InComp k n) → (spot : List ℕ) → CompBreach p m f r k spot → ⊥
+  comp_meets k lawful there only spot (comp_absent req none) = (let t = first_text k in none (t.0, omega (arith, ap length (there t.0 req t.1))))
   comp_meets k lawful there only spot (comp_forbidden forb some) = not_both k.usage (only some.0 some.1).0 forb
   comp_meets k lawful there only spot (in_sub some b) =
       subs_meet p k.subs 1 lawful.rising (λ n. text_of m f r k.number n) (λ n le high h. there n (only some.0 some.1).0 (inr h)) (λ n le high h. sub n high (only n h).1) spot b
     where
-      sub : (n : ℕ) → n ≤ 99 → (n ≡ 100) ⊎ InSubs k.subs n → InSubs k.subs n
-      sub n high (inl e) = absurd (omega (arith, high, e))
+      sub : (n : ℕ) → n ≤ 99 → InComp k n → InSubs k.subs n
+      sub n high (inl e) = absurd (omega (arith, high, e.0))
       sub n high (inr h) = h
 
   comps_meet : (ks : List CompValue) (low : ℕ) → Rising low 99 (comp_numbers ks) → AllByRecursion (LawfulComp tables) ks → ((c n : ℕ) → low ≤ c → c ≤ 99 → InComps ks c n → text_of m f r c n ≡ null) → ((c n : ℕ) → low ≤ c → c ≤ 99 → 0 < length (text_of m f r c n) → InComps ks c n) → (spot : List ℕ) → InAny (λ c. c.number) (CompBreach p m f r) ks spot → ⊥
@@ -238,7 +344,7 @@ module _ (p : ProfileValue) (tables : List (List ℕ)) (m : Texts) (f r : ℕ) w
   comps_meet (k ∷ ks) low rise each there only _ (in_first b) =
       comp_meets k each.0 (λ n req h. there k.number n rise.0 rise.1 (inl (req, refl, h))) (λ n some. own n (only k.number n rise.0 rise.1 some)) _ b
     where
-      own : (n : ℕ) → InComps (k ∷ ks) k.number n → (is_required k.usage ≡ true) × ((n ≡ 100) ⊎ InSubs k.subs n)
+      own : (n : ℕ) → InComps (k ∷ ks) k.number n → (is_required k.usage ≡ true) × InComp k n
       own n (inl h) = (h.0, h.2)
       own n (inr h) = absurd (omega (arith, comps_above ks (suc k.number) rise.2 k.number n h))
   comps_meet (k ∷ ks) low rise each there only _ (in_later b) =
@@ -281,7 +387,7 @@ forbidden_none X card a e = a.0
 module _ (p : ProfileValue) (tables : List (List ℕ)) (m : Texts) where
   module _ (v : FieldValue) (lawful : LawfulField tables v) (there : (r c n : ℕ) → 0 < r → r ≤ v.card.min → InRep v c n → text_of m v.number r c n ≡ null) (only : (r c n : ℕ) → 0 < length (text_of m v.number r c n) → (0 < r) × (r ≤ v.card.min) × InRep v c n) where
     rep_there : (r : ℕ) → 0 < r → r ≤ v.card.min → RepAt m v.number r
-    rep_there r some le = (100, (1, omega (arith, ap length (there r 100 1 some le (inl (refl, refl))))))
+    rep_there r some le = (let t = first_in v in (t.0, (t.1, omega (arith, ap length (there r t.0 t.1 some le t.2)))))
 
     within : (r : ℕ) → RepAt m v.number r → (0 < r) × (r ≤ v.card.min)
     within r h = let o = only r h.0 h.1.0 h.1.1 in (o.0, o.1)

@@ -14,7 +14,7 @@ use Rattle.gw_profile.specs.Shapes.{SubValue, CompValue, FieldValue}
 use Rattle.gw_profile.specs.WellFormed.{Rising, LawfulSub, LawfulComp, LawfulField, LawfulSegment}
 use Rattle.gw_profile.proofs.Among.{among_append, among_if, among_one}
 use Rattle.gw_validate.specs.Breaches.{is_required}
-use Rattle.gw_sample.specs.own.Least.{Key, null, sub_keys, comp_keys, rep_keys, reps_keys, field_keys, keys_of, entries_of, ArePlaces}
+use Rattle.gw_sample.specs.own.Least.{Key, null, or_else, sub_keys, comp_keys, rep_keys, reps_keys, field_keys, keys_of, entries_of, ArePlaces}
 
 -- the number of a key at this place
 abbrev part : ℕ → Key → ℕ
@@ -30,6 +30,15 @@ distinct_append (x ∷ a) b da db apart = (
 distinct_if : (b : Bool) (a : List Key) → Distinct a → Distinct (if b then a else [])
 distinct_if true a d = d
 distinct_if false a d = tt
+
+-- where there is none, the other one
+among_or : (key x : Key) (ks : List Key) → Among x (or_else key ks) → (x ≡ key) ⊎ Among x ks
+among_or key x [] i = i
+among_or key x (k ∷ ks) i = inr i
+
+distinct_or : (key : Key) (ks : List Key) → Distinct (key ∷ ks) → Distinct (or_else key ks)
+distinct_or key [] d = d
+distinct_or key (k ∷ ks) d = d.1
 
 -- ---- the keys of things whose numbers rise
 
@@ -75,7 +84,9 @@ sub_is f r c s x i = (among_one (f ∷ r ∷ c ∷ s.number ∷ []) x).0 ((among
 
 in_comp : (P : Key → Type 0) (f r : ℕ) (k : CompValue) → P (f ∷ r ∷ k.number ∷ 100 ∷ []) → ((s : SubValue) → P (f ∷ r ∷ k.number ∷ s.number ∷ [])) → (x : Key) → Among x (comp_keys f r k) → P x
 in_comp P f r k here each x i =
-    elim ((among_if (is_required k.usage) ((f ∷ r ∷ k.number ∷ 100 ∷ []) ∷ flat_map (sub_keys f r k.number) k.subs) x).0 i).1 [
+    let key = f ∷ r ∷ k.number ∷ 100 ∷ [] in
+    let subs = flat_map (sub_keys f r k.number) k.subs in
+    elim (among_or key x subs ((among_if (is_required k.usage) (or_else key subs) x).0 i).1) [
       | inl e ↦ subst P (sym e) here
       | inr j ↦ all_flat (sub_keys f r k.number) P (λ s y i. subst P (sym (sub_is f r k.number s y i)) (each s)) k.subs x j
     ]
@@ -84,9 +95,12 @@ comp_number : (f r : ℕ) (k : CompValue) (x : Key) → Among x (comp_keys f r k
 comp_number f r k = in_comp (λ x. part 2 x ≡ k.number) f r k refl (λ s. refl)
 
 rep_begins : (v : FieldValue) (r : ℕ) (x : Key) → Among x (rep_keys v r) → Begins v.number r x
-rep_begins v r x (inl e) = subst (Begins v.number r) (sym e) (record { field = refl; rep = refl })
-rep_begins v r x (inr i) =
-    all_flat (comp_keys v.number r) (Begins v.number r) (λ k. in_comp (Begins v.number r) v.number r k (record { field = refl; rep = refl }) (λ s. record { field = refl; rep = refl })) v.comps x i
+rep_begins v r x i =
+    elim (among_or (v.number ∷ r ∷ 100 ∷ 1 ∷ []) x (flat_map (comp_keys v.number r) v.comps) i) [
+      | inl e ↦ subst (Begins v.number r) (sym e) (record { field = refl; rep = refl })
+      | inr j ↦
+          all_flat (comp_keys v.number r) (Begins v.number r) (λ k. in_comp (Begins v.number r) v.number r k (record { field = refl; rep = refl }) (λ s. record { field = refl; rep = refl })) v.comps x j
+    ]
 
 reps_begin : (v : FieldValue) (k : ℕ) (x : Key) → Among x (reps_keys v k) → (part 0 x ≡ v.number) × (part 1 x ≤ k)
 reps_begin v zero x i = absurd i
@@ -105,14 +119,16 @@ module _ (tables : List (List ℕ)) where
 
   comp_apart : (f r : ℕ) (k : CompValue) → LawfulComp tables k → Distinct (comp_keys f r k)
   comp_apart f r k l =
-      distinct_if (is_required k.usage) ((f ∷ r ∷ k.number ∷ 100 ∷ []) ∷ flat_map (sub_keys f r k.number) k.subs) (
+      let key = f ∷ r ∷ k.number ∷ 100 ∷ [] in
+      let subs = flat_map (sub_keys f r k.number) k.subs in
+      distinct_if (is_required k.usage) (or_else key subs) (distinct_or key subs (
         λ i. (let w = within (sub_keys f r k.number) (λ (s : SubValue). s.number) (LawfulSub tables) 3 (λ s x j. ap (part 3) (sub_is f r k.number s x j)) k.subs 1 99 l.rising (f ∷ r ∷ k.number ∷ 100 ∷ []) i in
             let high : 100 ≤ 99 = w.1 in omega (arith, high)),
         subs_apart f r k.number k.subs l.rising l.each,
-      )
+      ))
 
   rep_apart : (v : FieldValue) (r : ℕ) → LawfulField tables v → Distinct (rep_keys v r)
-  rep_apart v r l = (
+  rep_apart v r l = distinct_or (v.number ∷ r ∷ 100 ∷ 1 ∷ []) (flat_map (comp_keys v.number r) v.comps) (
     λ i. (let w = within (comp_keys v.number r) (λ (k : CompValue). k.number) (LawfulComp tables) 2 (comp_number v.number r) v.comps 1 99 l.rising (v.number ∷ r ∷ 100 ∷ 1 ∷ []) i in
         let high : 100 ≤ 99 = w.1 in omega (arith, high)),
     distinct_flat (comp_keys v.number r) (λ (k : CompValue). k.number) (LawfulComp tables) 2 (comp_number v.number r) (comp_apart v.number r) v.comps 1 99 l.rising l.each,
@@ -141,7 +157,9 @@ module _ (tables : List (List ℕ)) where
 
     comp_may : (f r : ℕ) → first ≤ f → 0 < f → 0 < r → (k : CompValue) → LawfulComp tables k → 1 ≤ k.number → (x : Key) → Among x (comp_keys f r k) → May x
     comp_may f r le hf hr k l hk x i =
-        elim ((among_if (is_required k.usage) ((f ∷ r ∷ k.number ∷ 100 ∷ []) ∷ flat_map (sub_keys f r k.number) k.subs) x).0 i).1 [
+        let key = f ∷ r ∷ k.number ∷ 100 ∷ [] in
+        let subs = flat_map (sub_keys f r k.number) k.subs in
+        elim (among_or key x subs ((among_if (is_required k.usage) (or_else key subs) x).0 i).1) [
           | inl e ↦ subst May (sym e) (may f r k.number 100 le hf hr (omega (arith, hk)) (omega arith))
           | inr j ↦
               all_rising (sub_keys f r k.number) (λ (s : SubValue). s.number) (LawfulSub tables) May 1
@@ -149,9 +167,12 @@ module _ (tables : List (List ℕ)) where
         ]
 
     rep_may : (v : FieldValue) (r : ℕ) → first ≤ v.number → 0 < v.number → 0 < r → LawfulField tables v → (x : Key) → Among x (rep_keys v r) → May x
-    rep_may v r le hf hr l x (inl e) = subst May (sym e) (may v.number r 100 1 le hf hr (omega arith) (omega arith))
-    rep_may v r le hf hr l x (inr i) =
-        all_rising (comp_keys v.number r) (λ (k : CompValue). k.number) (LawfulComp tables) May 1 (comp_may v.number r le hf hr) v.comps 1 99 (omega arith) l.rising l.each x i
+    rep_may v r le hf hr l x i =
+        elim (among_or (v.number ∷ r ∷ 100 ∷ 1 ∷ []) x (flat_map (comp_keys v.number r) v.comps) i) [
+          | inl e ↦ subst May (sym e) (may v.number r 100 1 le hf hr (omega arith) (omega arith))
+          | inr j ↦
+              all_rising (comp_keys v.number r) (λ (k : CompValue). k.number) (LawfulComp tables) May 1 (comp_may v.number r le hf hr) v.comps 1 99 (omega arith) l.rising l.each x j
+        ]
 
     reps_may : (v : FieldValue) (k : ℕ) → first ≤ v.number → 0 < v.number → LawfulField tables v → (x : Key) → Among x (reps_keys v k) → May x
     reps_may v zero le hf l x i = absurd i

@@ -1,4 +1,4 @@
--- When a profile has no sample: each message that conforms has too many segments, or too many elements have to come.
+-- When a profile has no sample: each message that conforms has too many segments, or too many texts have to come.
 use Rattle.std.proofs.Common.{◌≡◌, ℕ, ◌<◌, ◌≤◌, inl, inr, length, Option, None, Some, Bool, false, Result, Ok, Err, subst, arith}
 use Rattle.std.specs.Prelude.{IsNone, IsSome, IsTrue, ◌↔◌, IfOk}
 use Rattle.std.proofs.lemmas.Bool.{cases_lt}
@@ -6,7 +6,7 @@ use Rattle.gw_er7.specs.Written.{written}
 use Rattle.gw_profile.specs.Seen.{Contents, forest, profile_value}
 use Rattle.gw_profile.specs.Shapes.{ProfileValue}
 use Rattle.gw_validate.specs.Fitting.{TreeValue}
-use Rattle.gw_sample.specs.Elements.{elements}
+use Rattle.gw_sample.specs.FewestTexts.{fewest_texts}
 use Rattle.gw_sample.specs.Samples.{IsSample, Samples, TooManySegments, TooLarge}
 use Rattle.gw_sample.specs.own.Least.{least}
 use Rattle.gw_sample.proofs.Again.{few}
@@ -25,20 +25,20 @@ too_many_segments b found given same is not m conforms =
     let long = none_shorter (profile_value given) m conforms in
     omega (arith, large, long)
 
-pub too_many_elements : (b : Bool) (found given : Contents) → found ≡ given → IsTrue b ↔ (elements (forest found.nodes) ≤ 524288) → b ≡ false → 524288 < elements (forest given.nodes)
-too_many_elements b found given same is not = subst (λ (c : Contents). 524288 < elements (forest c.nodes)) same (more b (elements (forest found.nodes)) 524288 is not)
+pub too_many_texts : (b : Bool) (found given : Contents) → found ≡ given → IsTrue b ↔ (fewest_texts (forest found.nodes) ≤ 524288) → b ≡ false → 524288 < fewest_texts (forest given.nodes)
+too_many_texts b found given same is not = subst (λ (c : Contents). 524288 < fewest_texts (forest c.nodes)) same (more b (fewest_texts (forest found.nodes)) 524288 is not)
 
-pub few_elements : (b : Bool) (found given : Contents) → found ≡ given → IsTrue b ↔ (elements (forest found.nodes) ≤ 524288) → IsTrue b → elements (forest given.nodes) ≤ 524288
-few_elements b found given same is small = subst (λ (c : Contents). elements (forest c.nodes) ≤ 524288) same (is.0 small)
+pub few_texts : (b : Bool) (found given : Contents) → found ≡ given → IsTrue b ↔ (fewest_texts (forest found.nodes) ≤ 524288) → IsTrue b → fewest_texts (forest given.nodes) ≤ 524288
+few_texts b found given same is small = subst (λ (c : Contents). fewest_texts (forest c.nodes) ≤ 524288) same (is.0 small)
 
-pub sample_is_not : (p : ProfileValue) (t : TreeValue) → elements p.nodes ≤ 524288 → Samples p t → TooLarge p → ⊥
+pub sample_is_not : (p : ProfileValue) (t : TreeValue) → fewest_texts p.nodes ≤ 524288 → Samples p t → TooLarge p → ⊥
 sample_is_not p t small is (inl large) = few (written t.message) t.message is.again (large t.message is.conforms)
 sample_is_not p t small is (inr large) = absurd (omega (arith, small, large))
 
-some_is : (p : ProfileValue) (found : Option TreeValue) → elements p.nodes ≤ 524288 → IsSample p found → IsSome found → IsNone found ↔ TooLarge p
+some_is : (p : ProfileValue) (found : Option TreeValue) → fewest_texts p.nodes ≤ 524288 → IsSample p found → IsSome found → IsNone found ↔ TooLarge p
 some_is p None small is some = absurd (cc)
 some_is p (Some t) small is some = (λ none. absurd (cc), λ large. absurd (sample_is_not p t small is large))
 
-pub found_is : {E : Type 0} (p : ProfileValue) (r : Result (Option TreeValue) E) → elements p.nodes ≤ 524288 → IfOk r (IsSample p) → IfOk r IsSome → IfOk r (λ found. IsNone found ↔ TooLarge p)
+pub found_is : {E : Type 0} (p : ProfileValue) (r : Result (Option TreeValue) E) → fewest_texts p.nodes ≤ 524288 → IfOk r (IsSample p) → IfOk r IsSome → IfOk r (λ found. IsNone found ↔ TooLarge p)
 found_is p (Ok found) small is some = some_is p found small is some
 found_is p (Err e) small is some = tt

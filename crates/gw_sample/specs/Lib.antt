@@ -1,3 +1,3 @@
-pub mod Elements
+pub mod FewestTexts
 pub mod Samples
 pub mod own

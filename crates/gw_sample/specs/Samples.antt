@@ -7,7 +7,7 @@ use Rattle.gw_profile.specs.Shapes.{ProfileValue}
 use Rattle.gw_profile.specs.Seen.{profile_value}
 use Rattle.gw_validate.specs.Conforming.{Conforms}
 use Rattle.gw_validate.specs.Fitting.{TreeValue}
-use Rattle.gw_sample.specs.Elements.{elements}
+use Rattle.gw_sample.specs.FewestTexts.{fewest_texts}
 
 -- what is written for the message reads as it again
 abbrev pub IsReadAgain : List SegmentValue → Type 0
@@ -21,9 +21,9 @@ HasOne p = (m : List SegmentValue) × IsMessage m × Conforms p m
 abbrev pub TooManySegments : ProfileValue → Type 0
 TooManySegments p = (m : List SegmentValue) → Conforms p m → 10000 < length m
 
--- or more elements have to come than a message has pairs of bytes
+-- or more texts have to come than a message has pairs of bytes
 abbrev pub TooLarge : ProfileValue → Type 0
-TooLarge p = TooManySegments p ⊎ (524288 < elements p.nodes)
+TooLarge p = TooManySegments p ⊎ (524288 < fewest_texts p.nodes)
 
 -- the tree's message conforms to this profile, and what is written for it reads as it again
 pub record Samples (p : ProfileValue) (t : TreeValue) : Type 0 where

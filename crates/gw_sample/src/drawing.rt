@@ -1,6 +1,6 @@
 //! A sample as it is written: its segments, fields, components and subcomponents between the separators (HL7 v2.5.1 chapter 2, 2.5.4).
 
-use crate::extent::{Extent, count, is_beyond};
+use crate::extent::{Extent, count, is_beyond, is_within};
 use crate::leaf::{Texts, Values};
 use crate::parts::{Filler, filler_of, is_drawn};
 use crate::text::{Undrawn, put, separate};
@@ -17,7 +17,7 @@ struct Sketch<'p> {
 /// The name of the header segment.
 const HEADER: [u8; 3] = [77, 83, 72];
 
-/// The last component that a sample may have beyond those that the profile lists.
+/// The last component, and the last subcomponent, that a sample may have beyond those that the profile lists.
 const LAST: u32 = 9;
 
 // The usual text of a leaf of the header: MSH-11 is for production, MSH-12 is this version.
@@ -48,6 +48,29 @@ fn draw_filler(
     }
 }
 
+// The subcomponents from one number up to another, of which the profile lists none: where they are asked for, each is there.
+// Answers the number of the last subcomponent that is there, which was `at`.
+fn draw_within(
+    sketch: &Sketch<'_>,
+    text: &mut Vec<u8>,
+    at: u32,
+    from: u32,
+    to: u32,
+) -> Result<u32, Undrawn> {
+    if !is_within(sketch.extent) {
+        return Ok(at);
+    }
+    let mut at = at;
+    for number in from..to {
+        if number <= LAST {
+            separate(text, b'&', at, number)?;
+            sketch.values.put_unlisted(text)?;
+            at = number;
+        }
+    }
+    Ok(at)
+}
+
 // A component that is present.
 fn draw_comp(
     sketch: &Sketch<'_>,
@@ -57,14 +80,33 @@ fn draw_comp(
 ) -> Result<(), Undrawn> {
     let filler = filler_of(sketch.extent, subs);
     let mut at = 1;
+    let mut next = 1;
     for sub in subs {
+        at = draw_within(sketch, text, at, next, sub.number)?;
+        next = sub.number.saturating_add(1);
         if is_drawn(sketch.extent, filler, sub) {
             separate(text, b'&', at, sub.number)?;
             sketch.values.put(text, usual, sub)?;
             at = sub.number;
         }
     }
+    if is_within(sketch.extent) && next <= LAST {
+        draw_within(sketch, text, at, next, LAST + 1)?;
+        return Ok(());
+    }
     draw_filler(sketch, text, b'&', filler)
+}
+
+// A component that the profile doesn't list: a long text, or a second subcomponent without a first; where further ones are asked for
+// long texts, or each subcomponent but the second.
+fn draw_unlisted(sketch: &Sketch<'_>, text: &mut Vec<u8>) -> Result<(), Undrawn> {
+    if !is_within(sketch.extent) {
+        return sketch.values.put_beyond(text);
+    }
+    let at = draw_within(sketch, text, 1, 1, 2)?;
+    let next = if sketch.values.are_long() { 2 } else { 3 };
+    draw_within(sketch, text, at, next, LAST + 1)?;
+    Ok(())
 }
 
 // The components from one number up to another, of which the profile lists none: where they are asked for, each is there.
@@ -83,7 +125,7 @@ fn draw_beyond(
     for number in from..to {
         if number <= LAST {
             separate(text, b'^', at, number)?;
-            sketch.values.put_beyond(text)?;
+            draw_unlisted(sketch, text)?;
             at = number;
         }
     }

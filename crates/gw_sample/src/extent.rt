@@ -9,25 +9,34 @@ pub enum Extent {
     Least,
     /// Each element that may be there, and twice what may come twice.
     Most,
+    /// The segments and fields of the most, and of each field the components and subcomponents that have to be there.
+    MostFields,
     /// The least, and in each field the components up to the ninth that the profile doesn't list.
     LeastBeyond,
     /// The most, and those components.
     MostBeyond,
-}
-
-/// Whether only what has to be there is asked for, of what the profile lists.
-fn is_least(extent: Extent) -> bool {
-    match extent {
-        Extent::Least | Extent::LeastBeyond => true,
-        Extent::Most | Extent::MostBeyond => false,
-    }
+    /// The same, and in each component the subcomponents up to the ninth that the profile doesn't list.
+    MostWithin,
 }
 
 /// Whether components are asked for that the profile doesn't list.
 pub(crate) fn is_beyond(extent: Extent) -> bool {
     match extent {
-        Extent::LeastBeyond | Extent::MostBeyond => true,
-        Extent::Least | Extent::Most => false,
+        Extent::LeastBeyond | Extent::MostBeyond | Extent::MostWithin => true,
+        Extent::Least | Extent::Most | Extent::MostFields => false,
+    }
+}
+
+/// Whether subcomponents are asked for that the profile doesn't list.
+pub(crate) fn is_within(extent: Extent) -> bool {
+    extent == Extent::MostWithin
+}
+
+// Whether only the segments and fields are asked for that have to be there.
+fn has_least_fields(extent: Extent) -> bool {
+    match extent {
+        Extent::Least | Extent::LeastBeyond => true,
+        Extent::Most | Extent::MostFields | Extent::MostBeyond | Extent::MostWithin => false,
     }
 }
 
@@ -35,7 +44,7 @@ pub(crate) fn is_beyond(extent: Extent) -> bool {
 pub(crate) fn count(extent: Extent, card: Card) -> u32 {
     let Card { min, max } = card;
     match max {
-        _ if is_least(extent) || min > 1 => min,
+        _ if has_least_fields(extent) || min > 1 => min,
         Some(max) if max < 2 => max,
         _ => 2,
     }
@@ -46,6 +55,6 @@ pub(crate) fn is_shown(extent: Extent, usage: Usage) -> bool {
     match usage {
         Usage::R => true,
         Usage::X => false,
-        _ => !is_least(extent),
+        _ => !has_least_fields(extent) && extent != Extent::MostFields,
     }
 }

@@ -139,6 +139,14 @@ impl<'p> Values<'p> {
         NULL
     }
 
+    /// Whether long texts are asked for.
+    pub(crate) fn are_long(&self) -> bool {
+        match self.texts {
+            Texts::Longest(_) => true,
+            Texts::Value(_) => false,
+        }
+    }
+
     /// Puts the text of a leaf that the profile doesn't list.
     pub(crate) fn put_unlisted(&self, text: &mut Vec<u8>) -> Result<(), Undrawn> {
         match self.texts {

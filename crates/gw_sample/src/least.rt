@@ -3,14 +3,14 @@ ghost use Rattle.std.specs.Prelude.{◌≡◌, ◌++◌, ◌∷◌, [], ◌≤�
 ghost use Rattle.std.specs.FinMap as texts;
 ghost use Rattle.std.specs.List.{flat_map, sum_by};
 ghost use Rattle.gw_er7.specs.Building.{IsBegun};
-ghost use Rattle.gw_er7.specs.Message.{first_field};
+ghost use Rattle.gw_er7.specs.Message.{first_field, numbers};
 ghost use Rattle.gw_profile.specs.Seen.{sub as seen_sub, comp as seen_comp, field as seen_field, segment_value, node_forest, forest, profile_value};
 ghost use Rattle.gw_profile.specs.Shapes as shapes;
 ghost use Rattle.gw_profile.specs.Shapes.{nothing};
 ghost use Rattle.gw_profile.specs.WellFormed.{Headed};
 ghost use Rattle.gw_validate.specs.Breaches as breaches;
-ghost use Rattle.gw_sample.specs.Elements.{of_field};
-ghost use Rattle.gw_sample.specs.own.Least.{keys, AreListed, sub_keys, comp_keys, rep_keys, field_keys, keys_of, with_nulls, one_of, several_of, least, ArePlaces, MayFollow, MayHead, Adds, Fits};
+ghost use Rattle.gw_sample.specs.FewestTexts.{of_field};
+ghost use Rattle.gw_sample.specs.own.Least.{keys, AreListed, sub_keys, comp_keys, rep_keys, field_keys, keys_of, with_nulls, one_of, several_of, least, HasOneBehind, ArePlaces, MayFollow, MayHead, Adds, Fits};
 
 use crate::leaf::NULL;
 use gw_er7::{Builder, Message, Place};
@@ -61,6 +61,17 @@ fn add_subs(places: &mut Vec<Place>, at: Place, subs: &[SubShape]) -> Result<(),
     Ok(())
 }
 
+// Adds a place where none was added behind the first ones.
+fn add_if_none(places: &mut Vec<Place>, before: usize, at: Place) -> Result<(), AllocError>
+    ensures { OnOk result (HasOneBehind before (numbers at) places.old.items places.new.items) }
+{
+    if places.len() > before {
+        return Ok(());
+    }
+    places.push(at)?;
+    Ok(())
+}
+
 // Adds the places of a component that has to come, in a repetition.
 fn add_comp(
     places: &mut Vec<Place>,
@@ -80,8 +91,9 @@ fn add_comp(
         comp: comp.number as usize,
         sub: UNLISTED,
     };
-    places.push(at)?;
-    add_subs(places, at, &comp.subs)
+    let before = places.len();
+    add_subs(places, at, &comp.subs)?;
+    add_if_none(places, before, at)
 }
 
 // Adds the places of the components that have to come.
@@ -105,14 +117,15 @@ fn add_rep(places: &mut Vec<Place>, field: &FieldShape, rep: usize) -> Result<()
     ensures { OnOk result (AreListed places.old.items places.new.items
         (rep_keys (seen_field field.now) rep)) }
 {
-    let number = field.number as usize;
-    places.push(Place {
-        field: number,
+    let at = Place {
+        field: field.number as usize,
         rep,
         comp: UNLISTED,
         sub: 1,
-    })?;
-    add_comps(places, number, rep, &field.comps)
+    };
+    let before = places.len();
+    add_comps(places, at.field, rep, &field.comps)?;
+    add_if_none(places, before, at)
 }
 
 // Adds the places of a field.
@@ -126,7 +139,7 @@ fn add_field(places: &mut Vec<Place>, field: &FieldShape) -> Result<(), AllocErr
     Ok(())
 }
 
-// The places of the texts of a segment with these fields, one for each element that has to come.
+// The places of the texts that have to come in a segment with these fields.
 fn places_of(alloc: Global, fields: &[FieldShape]) -> Result<Vec<Place>, AllocError>
     ensures keys { IfOk result (λ places. keys places.items ≡ keys_of (map seen_field fields.now)) }
     ensures count { IfOk result (λ places. length places.items ≡ sum_by of_field (map seen_field fields.now)) }

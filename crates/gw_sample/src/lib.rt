@@ -2,8 +2,8 @@
 #![tactic(auto)]
 
 mod drawing;
-mod elements;
 mod extent;
+mod fewest_texts;
 pub mod laws;
 mod leaf;
 mod least;

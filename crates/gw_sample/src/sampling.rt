@@ -7,8 +7,8 @@ ghost use Rattle.gw_sample.specs.Samples.{IsSample, IsReadAgain, NoneIfTooLarge}
 ghost use Rattle.gw_sample.specs.own.Least.{least};
 
 use crate::drawing::draw;
-use crate::elements::are_few;
 use crate::extent::Extent;
+use crate::fewest_texts::are_few;
 use crate::leaf::Texts;
 use crate::least::{has_room, least_message};
 use crate::text::Undrawn;
@@ -111,8 +111,7 @@ fn least_tree(alloc: Global, profile: &Arc<Profile>) -> Result<Option<Tree>, All
 /// A message that conforms to the profile, made up from the profile alone, with its tree. Its texts are the values of the profile's tables,
 /// and plain ones; none is from a message. Where what was made up is larger than a message, over 1,048,576 bytes or 10,000 segments, it is the
 /// least that conforms: with these texts, or else with `""` in each place that needs one, however many bytes that has.
-/// None exactly where each message that conforms has more than 10,000 segments, or more than 524,288 repetitions, components and subcomponents
-/// have to come in one. The one error is allocation failure.
+/// None exactly where each message that conforms has more than 10,000 segments, or more than 524,288 texts have to come in one. The one error is allocation failure.
 pub fn sample(
     alloc: Global,
     profile: &Arc<Profile>,

@@ -20,7 +20,7 @@ fn extent(words: &ArgMatches<'_>) -> Option<Extent> {
 fn print_none<E: Write>(errors: &mut E, path: &str) -> u8 {
     let _ = writeln!(
         errors,
-        "{path}: more than 10000 segments or 524288 elements have to come, which no message has"
+        "{path}: more than 10000 segments or 524288 texts have to come, which no message has"
     );
     REFUSED
 }

@@ -1,5 +1,5 @@
 -- The least message of a profile: each element as often as it has to come, and each text `""`.
-use Rattle.std.specs.Prelude.{◌≡◌, ℕ, zero, suc, List, [], ◌∷◌, ◌++◌, map, if◌then◌else◌}
+use Rattle.std.specs.Prelude.{◌≡◌, ℕ, zero, suc, List, [], ◌∷◌, ◌++◌, length, map, if◌then◌else◌}
 use Rattle.std.specs.List.{AllByRecursion, flat_map}
 use Rattle.std.specs.FinMap as texts
 use Rattle.gw_er7.specs.declared.place.Place.{Place}
@@ -25,14 +25,19 @@ null = 34 ∷ 34 ∷ []
 abbrev pub sub_keys : ℕ → ℕ → ℕ → SubValue → List Key
 sub_keys f r c s = if is_required s.usage then (f ∷ r ∷ c ∷ s.number ∷ []) ∷ [] else []
 
--- a component that has to come has a text at a subcomponent that no profile lists, too
+-- where there is none, this one
+abbrev pub or_else : Key → List Key → List Key
+or_else key [] = key ∷ []
+or_else key (k ∷ ks) = k ∷ ks
+
+-- a component that has to come, and none of its subcomponents, has a text at one that no profile lists
 abbrev pub comp_keys : ℕ → ℕ → CompValue → List Key
 comp_keys f r k =
-    if is_required k.usage then (f ∷ r ∷ k.number ∷ 100 ∷ []) ∷ flat_map (sub_keys f r k.number) k.subs else []
+    if is_required k.usage then or_else (f ∷ r ∷ k.number ∷ 100 ∷ []) (flat_map (sub_keys f r k.number) k.subs) else []
 
 -- and so has a repetition at such a component
 abbrev pub rep_keys : FieldValue → ℕ → List Key
-rep_keys v r = (v.number ∷ r ∷ 100 ∷ 1 ∷ []) ∷ flat_map (comp_keys v.number r) v.comps
+rep_keys v r = or_else (v.number ∷ r ∷ 100 ∷ 1 ∷ []) (flat_map (comp_keys v.number r) v.comps)
 
 abbrev pub reps_keys : FieldValue → ℕ → List Key
 reps_keys v zero = []
@@ -73,6 +78,10 @@ keys = map numbers
 -- these places were put behind the others
 abbrev pub AreListed : List Place → List Place → List Key → Type 0
 AreListed old new ks = keys new ≡ keys old ++ ks
+
+-- this place was put behind the others where none was put behind the first ones
+abbrev pub HasOneBehind : ℕ → Key → List Place → List Place → Type 0
+HasOneBehind before at old new = (first ks : List Key) → length first ≡ before → keys old ≡ first ++ ks → keys new ≡ first ++ or_else at ks
 
 -- places for `""` in a segment whose first field is this one, each once
 pub record ArePlaces (first : ℕ) (ks : List Key) : Type 0 where

@@ -1,8 +1,8 @@
 use Rattle.std.proofs.Common.{arith}
 use Rattle.gw_profile.specs.Seen.{field}
-use Rattle.gw_sample.specs.Elements.{of_field}
+use Rattle.gw_sample.specs.FewestTexts.{of_field}
 use Rattle.gw_sample.proofs.Counting.{sum_more}
-use Rattle.gw_sample.proofs.elements.count_fields.Goals as goal
+use Rattle.gw_sample.proofs.fewest_texts.count_fields.Goals as goal
 
 pub overflow_add-count : goal.overflow_add-count
 overflow_add-count c = omega (arith, c.loop-field.invariant, c.count_field.ensures)

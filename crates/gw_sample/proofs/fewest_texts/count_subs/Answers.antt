@@ -1,8 +1,8 @@
 use Rattle.std.proofs.Common.{arith}
 use Rattle.gw_profile.specs.Seen.{sub}
-use Rattle.gw_sample.specs.Elements.{of_sub}
+use Rattle.gw_sample.specs.FewestTexts.{of_sub}
 use Rattle.gw_sample.proofs.Counting.{sum_more}
-use Rattle.gw_sample.proofs.elements.count_subs.Goals as goal
+use Rattle.gw_sample.proofs.fewest_texts.count_subs.Goals as goal
 
 pub overflow_add-count : goal.overflow_add-count
 overflow_add-count c = omega (arith, c.loop-sub.invariant, c.count_sub.ensures)
