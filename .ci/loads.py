@@ -1,4 +1,5 @@
-"""Trials of a gateway under load: what ends a round, senders that send faster than one takes, or don't take their answers. `.ci/gateways` plays them.
+"""Trials of a gateway under load: what ends a round, senders that send faster than one takes, or don't take their answers, and receivers that change places.
+`.ci/gateways` plays them.
 """
 import re
 import socket
@@ -45,7 +46,7 @@ def burst(gateway, receivers=20, senders=12, each=500):
     gateway.start()
 
     def send(at):
-        line, names = gateway.client(), [b"%c%07d" % (65 + at, it) for it in range(each)]
+        line, names = gateway.client(), [b"%d-%d" % (at, it) for it in range(each)]
         feeder = threading.Thread(target=line.send, args=(b"".join(map(message, names)),), daemon=True)
         feeder.start()
         answers = [line.block() for _ in names]
@@ -123,4 +124,32 @@ def deaf(gateway, most=5):
         same("the answer's code", [b"AA"], re.findall(rb"MSA\|(\w+)\|", answer))
         gateway.wait("session 2: its sender didn't take an answer in time")
         gateway.wait("session 2 ended: fault 3: the writer failed")
+    gateway.kill()
+
+
+def routed(receivers, events):
+    """A plan that has each event sent to a receiver of its own."""
+    head, _ = plan_for(receivers).split("route ")
+    return head + "".join(f"route ADT {events[it]} from SOURCE\n  to {it} by SMALL\n" for it in receivers)
+
+
+def reordered(gateway):
+    """Of four receivers one goes at an install, and the others change their order: what waits for each comes to it, and so does what is accepted then."""
+    names = ["ONE", "TWO", "THREE", "FOUR"]
+    events, receivers = dict(zip(names, ("A01", "A02", "A03", "A04"))), {it: Receiver() for it in names}
+    gateway.receivers, addresses = receivers, {name: it.address for name, it in receivers.items()}
+    for receiver in receivers.values():
+        receiver.close()
+    (gateway.room / "plan").write_text(routed(addresses, events))
+    (gateway.room / "next").write_text(routed({it: addresses[it] for it in ("FOUR", "ONE", "THREE")}, events))
+    gateway.start()
+    first, then = ([message(b"%s%d" % (it.encode(), at), events[it].encode()) for it in names] for at in (1, 2))
+    gateway.ask(first)
+    same("install", (0, "installed 1\n"), gateway.tell("install", "next"))
+    gateway.ask(then)
+    for receiver in receivers.values():
+        receiver.open(receiver.port)
+    for name, *stated in zip(names, first, then):
+        # (the second is answered AR, once its receiver is gone)
+        receivers[name].has(stated[:1] if name == "TWO" else stated, gateway.until)
     gateway.kill()
