@@ -502,4 +502,3 @@ least_conforms p wf =
     let m = least p.nodes in
     let all : listed p.nodes m ≡ m = all_kept (λ s. stands p.nodes s.name) m (least_stands p.nodes (stands p.nodes) (λ x h. h)) in
     subst (Fit p (table_names p.tables) p.nodes) (sym all) (least_fits p (table_names p.tables) p.nodes wf.segments wf.groups)
-
