@@ -58,11 +58,7 @@ fn may_be_one(source: &Profile, sub: Option<&SubShape>, texts: &[Vec<u8>]) -> bo
 }
 
 // Whether what a condition asks of this field can hold.
-fn can_hold(
-    sources: Sources<'_, '_, '_, '_, '_>,
-    from: &Reference,
-    condition: &Condition,
-) -> bool
+fn can_hold(sources: Sources<'_, '_, '_, '_, '_>, from: &Reference, condition: &Condition) -> bool
     ensures { result ≡ spec.can_hold (sources_value sources.entry) (reference from.now) (seen_condition condition.now) }
 {
     let place = condition.place;
