@@ -9,7 +9,7 @@ ghost use Rattle.gw_maplang.specs.Columns.{wide_row_of};
 ghost use Rattle.gw_maplang.specs.Fault as spec;
 ghost use Rattle.gw_maplang.specs.Line as form;
 ghost use Rattle.gw_lines.specs.Grammar.{Taken};
-ghost use Rattle.gw_maplang.specs.Seen.{line, above, now_all, items_all, rule, condition_now, field_condition_some, walk_some, leaf, leaf_value, wide_table, open_segment, open_rule, map_value, IsNewField, IsNewPlace, IsNewTable};
+ghost use Rattle.gw_maplang.specs.Seen.{line, above, now_all, items_all, rule, condition_now, field_condition_some, walk_some, ref, leaf, leaf_value, wide_table, open_segment, open_rule, map_value, IsNewField, IsNewPlace, IsNewTable};
 ghost use Rattle.gw_maplang.specs.Whole.{whole, is_unclosed, map_of};
 
 use crate::columns::Wide;
