@@ -1,6 +1,8 @@
-//! What `check --hints` says of a map that the rules allow: which `drop` lines name what is read too, and that the source doesn't list MSH-18.
+//! What `check --hints` says of a map that the rules allow: what its lines may not mean, which `drop` lines name what is read too,
+//! and that the source doesn't list MSH-18.
 use crate::advice::Written;
 use crate::elements::parts_of;
+use crate::line_hints::{print_conditions, print_leaves};
 use crate::subjects::read_of;
 use gw_check::{CheckedMap, Site, sites};
 use gw_maplang::Dropped;
@@ -66,12 +68,12 @@ fn print_drops<E: Write>(
     alloc: Global,
     written: &Written<'_>,
     map: &CheckedMap,
+    sites: &[Site],
     errors: &mut E,
 ) -> Result<(), AllocError> {
     let path = written.path;
     let mut reads = BTreeMap::new(alloc);
-    let sites = sites(alloc, map.items())?;
-    for site in sites.as_slice() {
+    for site in sites {
         note_read(alloc, &mut reads, site)?;
     }
     for dropped in map.map().drops() {
@@ -107,7 +109,10 @@ pub(crate) fn print_hints<E: Write>(
     map: &CheckedMap,
     errors: &mut E,
 ) -> Result<(), AllocError> {
-    print_drops(alloc, written, map, errors)?;
+    let sites = sites(alloc, map.items())?;
+    print_conditions(alloc, written, map, &sites, errors)?;
+    print_leaves(written, map.source(), &sites, errors);
+    print_drops(alloc, written, map, &sites, errors)?;
     if !lists_characters(map.source()) {
         let _ = writeln!(
             errors,

@@ -37,7 +37,7 @@ fn write_segment(out: &mut Vec<u8>, segment: &SegNode, has_fields: bool) -> io::
     for field in segment.fields.as_slice() {
         if field.usage != Usage::X {
             let number = field.number;
-            writeln!(out, "field {number} RE 0..*")?;
+            writeln!(out, "field {number} R 1..1")?;
         }
     }
     Ok(())
@@ -66,7 +66,8 @@ fn write_nodes(out: &mut Vec<u8>, nodes: &[Node], has_fields: bool) -> io::Resul
     Ok(())
 }
 
-/// The text of a profile with the same segments and groups. It demands nothing of their fields, and lists those that may come as RE where they are asked for.
+/// The text of a profile with the same segments and groups. It demands nothing of their fields, and lists those that may come as R where they are asked for.
+/// It is no longer than the text of the profile.
 pub(crate) fn write_skeleton(
     out: &mut Vec<u8>,
     profile: &Profile,

@@ -4,6 +4,7 @@ use crate::chosen::condition_at;
 use crate::elements::{Named, node_at, print_interval};
 use crate::maps::ProfilePair;
 use crate::report::say;
+use crate::unreached::is_same_place;
 use gw_check::{ElementPath, Origin, Site, Taker, untaken};
 use gw_maplang::Table as Rows;
 use gw_profile::{Count, Profile, Usage, measure};
@@ -20,12 +21,7 @@ pub(crate) enum TakenBy<'a> {
 }
 
 /// A search for a text that isn't taken: the source's table, the length up to which it is read, what takes it, and the table of the map in which it is looked up first.
-pub(crate) type Search<'a> = (
-    Option<&'a [u8]>,
-    Option<u32>,
-    TakenBy<'a>,
-    Option<&'a [u8]>,
-);
+pub(crate) type Search<'a> = (Option<&'a [u8]>, Option<u32>, TakenBy<'a>, Option<&'a [u8]>);
 
 /// What such searches found.
 pub(crate) type Searches<'a> = BTreeMap<Search<'a>, Option<&'a [u8]>>;
@@ -161,10 +157,9 @@ fn takes(taker: Taker<'_>, text: &[u8]) -> bool {
 }
 
 /// Whether the source may have a text at an element.
-fn may_have(from: Named<'_>, text: &[u8]) -> bool {
-    let is_short = from
-        .len()
-        .is_none_or(|most| measure(from.profile.count(), text) <= u64::from(most));
+pub(crate) fn may_have(from: Named<'_>, text: &[u8]) -> bool {
+    let is_short = from.len().is_none_or(|most| measure(from.profile.count(), text)
+        <= u64::from(most));
     let is_listed = from
         .table()
         .and_then(|name| from.profile.table(name))
@@ -206,7 +201,16 @@ impl<'a, E: Write> Telling<'a, '_, E> {
         }
     }
 
-    /// Reports why what is read may be absent: by `where`, by a node on the way to it, or by itself.
+    /// Whether another leaf stands for this one where it gives no text.
+    fn has_others(&self, site: &Site) -> bool {
+        let Refusal { refused, .. } = self.refusal;
+        let sites = refused.used.sites.as_slice();
+        sites.iter().any(|other| other.line > site.line
+            && site.target.comp > 0
+            && is_same_place(site, other))
+    }
+
+    /// Reports why what is read may be absent: by `where`, by `date`, by a node on the way to it, or by itself.
     fn print_absent(&mut self, site: &'a Site, mark: FailureSite, from: Named<'a>) {
         if let Some(asked) = self.asked_by_where(site, mark) {
             let source = from.profile.name().escape_ascii();
@@ -214,6 +218,8 @@ impl<'a, E: Write> Telling<'a, '_, E> {
                 self.errors,
                 "only some values of {asked} in {source} give it"
             );
+        } else if let Origin::Dated(digits, _) = &site.origin {
+            let _ = write!(self.errors, "only a text with {digits} digits gives it");
         } else if let Some(path) = read_of(site)
             && let Some(at) = absent_on_the_way(from.profile, path)
         {
@@ -236,7 +242,7 @@ impl<'a, E: Write> Telling<'a, '_, E> {
         if let (4, Some(count)) = (rule, mark.count) {
             say(self.errors, b", and the map gives it ");
             print_interval(self.errors, count);
-        } else if rule == 5 && mark.comp > 0 && !is_copy(site) {
+        } else if rule == 5 && (mark.comp > 0 && !is_copy(site) || self.has_others(site)) {
             say(self.errors, b", and no leaf is always there for it");
         } else if let Some(from) = from {
             say(self.errors, b", and ");

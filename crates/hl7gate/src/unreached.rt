@@ -45,18 +45,18 @@ fn never_there<'a>(asked: Named<'a>, walked: usize) -> Option<Named<'a>> {
 }
 
 /// Whether the nodes on the way to what is read, and its field, are always there.
-fn is_reached(source: &Profile, from: &ElementPath) -> bool {
+pub(crate) fn is_reached(source: &Profile, from: &ElementPath) -> bool {
     for end in from.walked..from.at.len() {
         if node_at(source, &from.at[..=end]).is_none_or(|node| node.card().min == 0) {
             return false;
         }
     }
-    field_at(source, &from.at, from.field)
-        .is_some_and(|field| field.usage == Usage::R && field.card.min > 0)
+    field_at(source, &from.at, from.field).is_some_and(|field| field.usage == Usage::R
+        && field.card.min > 0)
 }
 
 /// Whether the component and subcomponent that are read are always there, where their field is.
-fn is_whole(source: &Profile, from: &ElementPath) -> bool {
+pub(crate) fn is_whole(source: &Profile, from: &ElementPath) -> bool {
     let ElementPath {
         at,
         field,
@@ -84,7 +84,7 @@ fn is_repeated(sites: &[Site], made: &Site, from: &ElementPath) -> bool {
 }
 
 /// Whether a leaf always gives a text.
-fn always_gives(source: &Profile, sites: &[Site], site: &Site) -> bool {
+pub(crate) fn always_gives(source: &Profile, sites: &[Site], site: &Site) -> bool {
     match &site.origin {
         Origin::Text(_) => true,
         Origin::Read(from) | Origin::LookedUp(_, from) => {
@@ -95,7 +95,7 @@ fn always_gives(source: &Profile, sites: &[Site], site: &Site) -> bool {
 }
 
 /// Whether two lines are for one place of the target.
-fn is_same_place(one: &Site, other: &Site) -> bool {
+pub(crate) fn is_same_place(one: &Site, other: &Site) -> bool {
     one.target.at.as_slice() == other.target.at.as_slice()
         && (one.target.field, one.target.comp, one.target.sub)
             == (other.target.field, other.target.comp, other.target.sub)
