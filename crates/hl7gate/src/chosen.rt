@@ -2,7 +2,8 @@
 use crate::elements::Named;
 use crate::subjects::read_of;
 use gw_check::Site;
-use gw_maplang::{Condition, Item, Rule, Walk};
+use gw_lines::Word;
+use gw_maplang::{Condition, Item, Rule, Walk, is_kept};
 use gw_profile::Profile;
 use std::alloc::{AllocError, Global};
 use std::collections::BTreeMap;
@@ -130,9 +131,10 @@ pub(crate) fn write_values<W: Write>(out: &mut W, values: &[Vec<u8>]) -> io::Res
     Ok(())
 }
 
-/// Writes a value, in quotation marks where it has a blank.
+/// Writes a value, in quotation marks where it has a blank or is a word of conditions.
 pub(crate) fn write_value<W: Write>(out: &mut W, value: &[u8]) -> io::Result<()> {
-    let is_quoted = value.iter().any(|byte| *byte == b' ' || *byte == b'\t');
+    let has_blank = value.iter().any(|byte| *byte == b' ' || *byte == b'\t');
+    let is_quoted = has_blank || is_kept(Word::Plain(value));
     let mark: &[u8] = if is_quoted { b"\"" } else { b"" };
     out.write_all(mark)?;
     out.write_all(value)?;
