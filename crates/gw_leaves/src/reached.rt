@@ -7,7 +7,6 @@ ghost use Rattle.gw_maplang.specs.Shapes.{TableValue};
 ghost use Rattle.gw_maplang.specs.Seen.{now, condition as seen_condition, condition_some};
 ghost use Rattle.gw_leaves.specs.Leaves.{sub_values};
 ghost use Rattle.gw_leaves.specs.Reached as spec;
-ghost use Rattle.gw_leaves.specs.Texts.{items_all};
 ghost use Rattle.gw_leaves.specs.own.Held.{is_listed, leaves_value, others_value};
 ghost use Rattle.gw_leaves.specs.Uses.{sources_value, map_tables, rules_value};
 ghost use Rattle.gw_resolve.specs.Resolved.{alternatives};
@@ -40,7 +39,6 @@ fn is_listed(source: &Profile, name: Option<&[u8]>, text: &[u8]) -> bool
 }
 
 // Whether this text can stand at a subcomponent of the source.
-#[tactic(auto, using(crate::proofs::Filtered::may_be_there))]
 fn may_be(source: &Profile, sub: Option<&SubShape>, text: &[u8]) -> bool
     ensures { result ≡ spec.may_be (sub_values (profile_value source.now) (some_sub sub.entry)) text.now }
 {
@@ -52,12 +50,13 @@ fn may_be(source: &Profile, sub: Option<&SubShape>, text: &[u8]) -> bool
 
 // Whether one of these can.
 fn may_be_one(source: &Profile, sub: Option<&SubShape>, texts: &[Vec<u8>]) -> bool
-    ensures { result ≡ list_any (spec.may_be (sub_values (profile_value source.now) (some_sub sub.entry))) (items_all texts.now) }
+    ensures { result ≡ list_any (λ v. spec.may_be (sub_values (profile_value source.now) (some_sub sub.entry)) v.items) texts.now }
 {
     texts.iter().any(|text| may_be(source, sub, text))
 }
 
 // Whether what a condition asks of this field can hold.
+#[tactic(auto, using(crate::proofs::Inserted::any_map))]
 fn can_hold(sources: Sources<'_, '_, '_, '_, '_>, from: &Reference, condition: &Condition) -> bool
     ensures { result ≡ spec.can_hold (sources_value sources.entry) (reference from.now) (seen_condition condition.now) }
 {
