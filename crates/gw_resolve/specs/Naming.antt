@@ -94,7 +94,7 @@ segments_failures scope line path =
 
 -- the steps that may not come often where a field is read: none where the first of several segments is
 abbrev pub read_steps : Bool → List ℕ → List ℕ
-read_steps first steps = if first then [] else steps
+read_steps takes_first steps = if takes_first then [] else steps
 
 -- of a path to the one segment that is read, or to the first of several
 abbrev pub read_failures : List Element → ℕ → raw.FieldPath → List Failure

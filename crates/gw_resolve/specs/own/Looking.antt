@@ -35,13 +35,13 @@ place_there p = option_map (λ (b : Bor places.ScopePath). place b.now) p
 abbrev pub single_steps : uses.PathUse → List ℕ → List ℕ
 single_steps uses.TheVariants.Walk = but_last
 single_steps uses.TheVariants.WalkSegments = but_last
-single_steps (uses.TheVariants.Read first) = read_steps first
+single_steps (uses.TheVariants.Read takes_first) = read_steps takes_first
 
 -- a path leads to what is sought
 abbrev pub leads : uses.PathUse → List Element → Option Place → Bool
 leads uses.TheVariants.Walk scope place = has_place place
 leads uses.TheVariants.WalkSegments scope place = ends_at_segment scope place
-leads (uses.TheVariants.Read first) scope place = ends_at_segment scope place
+leads (uses.TheVariants.Read takes_first) scope place = ends_at_segment scope place
 
 abbrev pub lead_failures : uses.PathUse → List Element → ℕ → Path → List Failure
 lead_failures how scope line path =
