@@ -1,6 +1,6 @@
 -- Which texts can stand at a place of the source.
 use Rattle.std.proofs.Common.{◌≡◌, ℕ, Bool, true, false, List, [], ◌∷◌, Option, Some, None, refl, sym, ap, ◌∙◌, arith}
-use Rattle.std.specs.Prelude.{◌&&◌, ◌||◌, if◌then◌else◌, filter, bytes_eq, unwrap_or}
+use Rattle.std.specs.Prelude.{◌&&◌, ◌||◌, not, if◌then◌else◌, filter, bytes_eq, unwrap_or}
 use Rattle.std.proofs.lemmas.Slice.Eq.{bytes_eq-Decides}
 use Rattle.gw_profile.specs.declared.shape.Count.{Count}
 use Rattle.gw_profile.specs.Fault.{is_among}
@@ -37,3 +37,7 @@ may_be_there p s text =
     ap (λ b. b && is_listed p.tables s.table text) (short_is (len_count p) s.len text)
     ∙ elim s.table as (λ t. (is_short (len_count p) s.len text && is_listed p.tables t text) ≡ may_be (sub_values p (Some (record s { table = t }))) text)
     [ None ↦ grind arith | Some name ↦ sym (among_filtered (is_short (len_count p) s.len) text (unwrap_or (table_of name p.tables) [])) ]
+
+-- what isn't absent is there
+pub there_and : (absent rest : Bool) → absent ≡ false → rest ≡ (not absent && rest)
+there_and absent rest there = ap (λ b. not b && rest) (sym there)
