@@ -1,5 +1,5 @@
-"""Trials of a gateway under load: what ends a round, senders that send faster than one takes, or don't take their answers, and receivers that change places.
-`.ci/gateways` plays them.
+"""Trials of a gateway under load: what ends a round, senders that send faster than one takes, or don't take their answers.
+Also receivers that change places, and long translations. `.ci/gateways` plays them.
 """
 import re
 import socket
@@ -8,6 +8,7 @@ import threading
 import time
 from concurrent.futures import ThreadPoolExecutor
 
+from disks import entry
 from gateway import REPORT, Receiver
 from loopback import ANSWERS, Differs, same
 
@@ -87,7 +88,8 @@ def many_sessions(gateway, most=101_000, at_once=100):
 
 def large_messages(gateway, receivers=60, size=1_000_000):
     """A round ends after a number of bytes: its journal keeps each message, and a translation for each receiver."""
-    (gateway.room / "plan").write_text(plan_for({"NOBODY": NOBODY}).replace("accept version", "".join(f"receiver R{it} {NOBODY}\n" for it in range(receivers)) + "accept version"))
+    others = "".join(f"receiver R{it} {NOBODY}\n" for it in range(receivers))
+    (gateway.room / "plan").write_text(plan_for({"NOBODY": NOBODY}).replace("accept version", others + "accept version"))
     gateway.start()
     line = gateway.client()
     for at in range(12):
@@ -124,6 +126,43 @@ def deaf(gateway, most=5):
         same("the answer's code", [b"AA"], re.findall(rb"MSA\|(\w+)\|", answer))
         gateway.wait("session 2: its sender didn't take an answer in time")
         gateway.wait("session 2 ended: fault 3: the writer failed")
+    gateway.kill()
+
+
+def long_translation(gateway, results=5_000):
+    """A translation of more segments than a message may have is sent as it is, over a restart, and again once its receiver has refused it.
+    What comes behind it is sent too."""
+    one, far = Receiver(codes=[b"AE", b"AA"]), "segment %s O 0..*\n  field 1 R 1..1\n"
+    gateway.receivers = {"ONE": one}
+    one.close()
+    items = COPY + "".join(f"segment {it} from OBX\n  copy 1 from OBX-1\n" for it in ("OBX", "NTE"))
+    (gateway.room / "plan").write_text(plan_for({"ONE": one.address}, HEADER + far % "OBX", HEADER + far % "OBX" + far % "NTE", items))
+    blocks = [message(b"LONG", more=b"OBX|1\r" * results), message(b"NEXT")]
+    stated = [message(b"LONG", more=b"OBX|1\r" * results + b"NTE|1\r" * results), message(b"NEXT")]
+    gateway.start()
+    same("codes", [b"AA", b"AA"], [re.search(rb"MSA\|(\w+)", it)[1] for it in gateway.ask(blocks)])
+    gateway.kill()
+    gateway.start()
+    gateway.wait("receiver ONE: 2 messages wait in folder")
+    one.open(one.port)
+    one.has(stated, gateway.until)
+    gateway.wait("receiver ONE answered AE: the message is in folder/refused/ONE.mllp")
+    same("resend", (0, "resent 1\n"), gateway.tell("resend", "ONE"))
+    one.has([*stated, stated[0]], gateway.until)
+    gateway.kill()
+
+
+def unsendable(gateway):
+    """A record that can't be sent is kept with what its receiver refused, and the next is sent."""
+    one, records = Receiver(), [b"no message", message(b"NEXT")[1:-2]]
+    gateway.receivers = {"ONE": one}
+    (gateway.room / "plan").write_text(plan_for({"ONE": one.address}))
+    (gateway.folder / "spool/ONE").mkdir(parents=True)
+    (gateway.folder / "spool/ONE/1").write_bytes(b"".join(map(entry, records)))
+    gateway.start()
+    one.has([b"\x0b" + records[1] + b"\x1c\r"], gateway.until)
+    gateway.wait("receiver ONE isn't sent a message whose header can't be read: the message is in folder/refused/ONE.mllp")
+    same("what isn't sent", b"\x0b" + records[0] + b"\x1c\r", (gateway.folder / "refused/ONE.mllp").read_bytes())
     gateway.kill()
 
 

@@ -18,15 +18,15 @@ use Rattle.gw_stream.specs.declared.fault.RunFault.{RunFault}
 use Rattle.gw_stream.specs.declared.fault.RunFault.TheVariants.{Memory, Line}
 use Rattle.gw_stream.specs.Counted.{nothing}
 use Rattle.gw_stream.specs.Reading.{ReadTimes}
-use Rattle.gw_stream.specs.Sent.{BeginsWith, SendsPart}
+use Rattle.gw_stream.specs.Sent.{SendsPart}
 use Rattle.gw_stream.specs.Streams.{HasFirst}
 use Rattle.gw_crew.specs.Notes.{NoteSeen, WasFull, WasNothing, Added}
 use Rattle.gw_stream.proofs.Walking.{first_whole, has_few, long_enough, long_whole, stands_all}
 use Rattle.gw_crew.specs.Streams.{Reading, Spot}
 use Rattle.gw_crew.specs.own.Turns.{Adds, Waits, never, again, ComesOut, ComesNone}
 use Rattle.gw_crew.specs.Carries.{Rounds, no_round, sent_one, waited, none_left, full, Carried, Carries, write, denied, LineFails, ReadInVain}
-use Rattle.gw_crew.specs.Carries.{memory, line, Breaks, empty_handed, in_hand, GivesNext, GivesNone, Sent, Unsent, Unwritten, WriteFails}
-use Rattle.gw_crew.specs.Carries.{write_memory, write_line, Denies, no_memory, not_acknowledged, Progress, with_sent}
+use Rattle.gw_crew.specs.Carries.{memory, line, Breaks, empty_handed, in_hand, GivesNext, GivesNone, Sent, Unsent}
+use Rattle.gw_crew.specs.Carries.{Denies, no_memory, not_acknowledged, Progress, with_sent}
 
 -- ---- numbers
 
@@ -227,7 +227,8 @@ empty_so r writer reader reads s left w w' h old mid new c fault is writes works
 
 pub hand_so : (r n : ℕ) (writer reader : Bool) (reads : ℕ) (s left : Spot) (w w1 w2 : Option (List ℕ)) (h : Held) (old mid new : List NoteSeen) (c : Counts)
     (t : TranslatedSeen) (message : List SegmentValue) (fault : RunFault)
-    → t.message ≡ message_seen message → Progress r s left w w1 h old mid c → ComesOut r n t mid new → Unsent n writer reader reads message w1 w2 left h fault →
+    → t.message ≡ message_seen message → Progress r s left w w1 h old mid c → ComesOut r n t mid new
+    → Unsent n writer reader reads (block (written message)) (control_of message) w1 w2 left h fault →
     Breaks r writer reader s.reads reads s.left w w2 old new fault
 hand_so r n writer reader reads s left w w1 w2 h old mid new c t message fault seen was comes unsent =
     in_hand n (control_of message) was.blocks fault
@@ -250,8 +251,8 @@ hand_so r n writer reader reads s left w w1 w2 h old mid new c t message fault s
 
 pub progress_more : (r n : ℕ) (s left left' : Spot) (w w1 w2 : Option (List ℕ)) (h h' : Held) (old mid new : List NoteSeen) (c c' : Counts) (t : TranslatedSeen)
     (message : List SegmentValue) (ack : Ack)
-    → t.message ≡ message_seen message → Progress r s left w w1 h old mid c → ComesOut r n t mid new → Sent message w1 w2 left left' h h' ack → c' ≡ with_sent
-    ack c → Progress r s left' w w2 h' old new c'
+    → t.message ≡ message_seen message → Progress r s left w w1 h old mid c → ComesOut r n t mid new
+    → Sent (block (written message)) (control_of message) w1 w2 left left' h h' ack → c' ≡ with_sent ack c → Progress r s left' w w2 h' old new c'
 progress_more r n s left left' w w1 w2 h h' old mid new c c' t message ack seen was comes sent is = record {
   blocks = was.blocks ++ sent.acked.content ∷ [];
   carried = subst (Carried r w w2 old new (was.blocks ++ sent.acked.content ∷ [])) (sym is)
@@ -277,38 +278,36 @@ comes_longer r n t old new comes =
     let both = ap length comes.noted ∙ length-append comes.mid (Added comes.at (WasOut n r t) ∷ []) in
     omega (arith, waits, both)
 
--- ---- one message
+-- ---- one block
 
-pub memory_unwritten : (n : ℕ) (writer : Bool) (m : List SegmentValue) (w : Option (List ℕ)) → writer ≡ false → Unwritten n writer m w w Memory
-memory_unwritten n writer m w is = record {
+pub memory_unsent : (n : ℕ) (writer reader : Bool) (reads : ℕ) (bytes control : List ℕ) (w : Option (List ℕ)) (unread : Spot) (h : Held)
+    → writer ≡ false → reader ≡ false → Unsent n writer reader reads bytes control w w unread h Memory
+memory_unsent n writer reader reads bytes control w unread h writes works = record {
   part = [];
-  begins = (block (written m), refl);
+  begins = (bytes, refl);
   wrote = Appends-nil w;
-  why = subst (λ b. WriteFails n b Memory) (sym is) write_memory;
+  fails = λ s blocks was. memory writes works;
 }
 
-pub line_unwritten : (n : ℕ) (writer : Bool) (m : List SegmentValue) (w w' : Option (List ℕ)) (bytes : List ℕ) → writer ≡ true → bytes ≡ block (written m)
-    → SendsPart w w' bytes → Unwritten n writer m w w' (Line n)
-line_unwritten n writer m w w' bytes is same part = record {
+pub line_unsent : (n : ℕ) (writer reader : Bool) (reads : ℕ) (bytes control : List ℕ) (w w' : Option (List ℕ)) (unread : Spot) (h : Held)
+    → writer ≡ true → SendsPart w w' bytes → Unsent n writer reader reads bytes control w w' unread h (Line n)
+line_unsent n writer reader reads bytes control w w' unread h fails part = record {
   part = part.0;
-  begins = subst (λ l. BeginsWith l part.0) same part.2;
+  begins = part.2;
   wrote = part.1;
-  why = subst (λ b. WriteFails n b (Line n)) (sym is) write_line;
+  fails = λ s blocks was. line (write fails);
 }
 
-write_fails : (n : ℕ) (writer reader : Bool) (reads : ℕ) (s : Spot) (blocks : List (List ℕ)) (control : List ℕ) (fault : RunFault) → reader ≡ false
-    → WriteFails n writer fault → LineFails n writer reader s.reads reads s.left blocks control fault
-write_fails n writer reader reads s blocks control fault works write_memory = memory refl works
-write_fails n writer reader reads s blocks control fault works write_line = line (write refl)
-
-pub unsent_so : (n : ℕ) (writer reader : Bool) (reads : ℕ) (m : List SegmentValue) (w w' : Option (List ℕ)) (unread : Spot) (h : Held) (fault : RunFault)
-    → reader ≡ false → Unwritten n writer m w w' fault
-    → Unsent n writer reader reads m w w' unread h fault
-unsent_so n writer reader reads m w w' unread h fault works un = record {
-  part = un.part;
-  begins = un.begins;
-  wrote = un.wrote;
-  fails = λ s blocks was. write_fails n writer reader reads s blocks (control_of m) fault works un.why;
+pub answer_unsent : (n : ℕ) (writer reader : Bool) (reads : ℕ) (bytes control : List ℕ) (w w' : Option (List ℕ)) (unread : Spot) (h : Held)
+    (r : Result Ack RunFault)
+    → writer ≡ false → Appends w w' bytes → IfErr r (GivesNone n false reader reads unread h control)
+    → IfErr r (Unsent n writer reader reads bytes control w w' unread h)
+answer_unsent n writer reader reads bytes control w w' unread h (Ok ack) writes wrote none = tt
+answer_unsent n writer reader reads bytes control w w' unread h (Err fault) writes wrote none = record {
+  part = bytes;
+  begins = ([], sym (append-nil bytes));
+  wrote = wrote;
+  fails = subst (λ b. GivesNone n b reader reads unread h control fault) (sym writes) none;
 }
 
 -- ---- the next block

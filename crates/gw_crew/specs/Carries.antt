@@ -134,18 +134,18 @@ GivesNone n writer reader reads unread old control fault =
 abbrev pub GivesNoBlock : ℕ → Bool → ℕ → Spot → Held → RunFault → Type 0
 GivesNoBlock n reader reads unread old fault = (control : List ℕ) → GivesNone n false reader reads unread old control fault
 
--- a message's block was written, and acknowledged
-pub record Sent (message : List SegmentValue) (before after : Option (List ℕ)) (unread left : Spot) (old new : Held) (ack : Ack) : Type 0 where
-  pub wrote : Appends before after (block (written message))
-  pub acked : Acked unread left old new (control_of message) ack
+-- a block was written, and acknowledged for this control id
+pub record Sent (bytes control : List ℕ) (before after : Option (List ℕ)) (unread left : Spot) (old new : Held) (ack : Ack) : Type 0 where
+  pub wrote : Appends before after bytes
+  pub acked : Acked unread left old new control ack
 
--- a message's block was written in part or whole, and not acknowledged
-pub record Unsent (n : ℕ) (writer reader : Bool) (reads : ℕ) (message : List SegmentValue) (before after : Option (List ℕ))
+-- a block was written in part or whole, and not acknowledged for this control id
+pub record Unsent (n : ℕ) (writer reader : Bool) (reads : ℕ) (bytes control : List ℕ) (before after : Option (List ℕ))
     (unread : Spot) (old : Held) (fault : RunFault) : Type 0 where
   pub part : List ℕ
-  pub begins : BeginsWith (block (written message)) part
+  pub begins : BeginsWith bytes part
   pub wrote : Appends before after part
-  pub fails : GivesNone n writer reader reads unread old (control_of message) fault
+  pub fails : GivesNone n writer reader reads unread old control fault
 
 -- so far only rounds were noted, and the decoder has given the blocks that acknowledge them
 pub record Progress (r : ℕ) (from left : Spot) (before after : Option (List ℕ)) (held : Held) (old new : List NoteSeen) (counts : Counts) : Type 0 where
@@ -153,19 +153,7 @@ pub record Progress (r : ℕ) (from left : Spot) (before after : Option (List �
   pub carried : Carried r before after old new blocks counts
   pub reading : Reading 0 from left blocks held
 
--- why a block can't be written for the message of this number
-pub data WriteFails (n : ℕ) : Bool → RunFault → Type 0 where
-  write_memory : WriteFails n false Memory
-  write_line : WriteFails n true (Line n)
-
 -- why a content isn't taken as the acknowledgment of the message of this number and control id
 pub data Denies (n : ℕ) (content control : List ℕ) : RunFault → Type 0 where
   no_memory : Denies n content control Memory
   not_acknowledged : ((ack : Ack) → Acknowledges content control ack → ⊥) → Denies n content control (Line n)
-
--- why a message's block, which has this number, wasn't written whole
-pub record Unwritten (n : ℕ) (writer : Bool) (message : List SegmentValue) (before after : Option (List ℕ)) (fault : RunFault) : Type 0 where
-  pub part : List ℕ
-  pub begins : BeginsWith (block (written message)) part
-  pub wrote : Appends before after part
-  pub why : WriteFails n writer fault

@@ -1,11 +1,11 @@
 //! Couriers.
 ghost use Rattle.std.specs.Prelude.{◌≡◌, ◌+◌, ◌<◌, ◌^◌, IfOk, IfErr, OnErr, OnOk, false};
-ghost use Rattle.std.specs.Io.KnownBytes.{Appends};
 ghost use Rattle.gw_er7.specs.Written.{written};
 ghost use Rattle.gw_gate.specs.Values.{reply_seen};
 ghost use Rattle.gw_mllp.specs.Stream.{block};
 ghost use Rattle.gw_stream.specs.declared.fault.RunFault.TheVariants.{Memory};
-ghost use Rattle.gw_crew.specs.Carries.{Breaks, Carries, Sent, Unsent, Unwritten, with_sent};
+ghost use Rattle.gw_ack.specs.Headers.{control_of};
+ghost use Rattle.gw_crew.specs.Carries.{Breaks, Carries, Sent, Unsent, with_sent};
 ghost use Rattle.gw_crew.specs.Streams.{spot};
 ghost use Rattle.gw_crew.specs.own.Turns.{Adds, Comes, Waits, out_seen};
 ghost use Rattle.gw_crew.specs.Releases.{GaveOut, release_reply, release_reply_seen};
@@ -53,26 +53,37 @@ pub fn release<D: Door>(door: &mut D, receiver: usize) -> Result<ReleaseReply, R
     }
 }
 
-// Writes the block of the message of this number.
-#[tactic(auto, using(crate::proofs::Carrying::memory_unwritten, crate::proofs::Carrying::line_unwritten))]
-fn send<W: Sink>(alloc: Global, message: &Message, writer: &mut W, n: u64) -> Result<(), RunFault>
-    requires { W.has_failed writer.old ≡ false }
-    ensures ok { OnOk result (Appends (W.contents writer.old) (W.contents writer.new) (block (written message.now))) }
-    ensures err { IfErr result (Unwritten n (W.has_failed writer.new) message.now (W.contents writer.old) (W.contents writer.new)) }
-    ensures works { OnOk result (W.has_failed writer.new ≡ false) }
+/// Writes a block, and reads its acknowledgment, which has to name this control id. The number is reported with a fault of the line.
+///
+/// The faults are those of a courier.
+#[tactic(auto, using(crate::proofs::Carrying::line_unsent, crate::proofs::Carrying::answer_unsent))]
+pub fn carry<R: Source, W: Sink>(
+    alloc: Global,
+    decoder: &mut Decoder,
+    reader: &mut R,
+    writer: &mut W,
+    bytes: &[u8],
+    control: &[u8],
+    n: u64,
+) -> Result<Ack, RunFault>
+    requires reads { R.has_failed reader.old ≡ false }
+    requires writes { W.has_failed writer.old ≡ false }
+    ensures sent { IfOk result (Sent bytes.now control.now (W.contents writer.old) (W.contents writer.new)
+        (spot R.remaining R.reads reader.old) (spot R.remaining R.reads reader.new) decoder.old decoder.new) }
+    ensures unsent { IfErr result (Unsent n (W.has_failed writer.new) (R.has_failed reader.new) (R.reads reader.new)
+        bytes.now control.now (W.contents writer.old) (W.contents writer.new) (spot R.remaining R.reads reader.old) decoder.old) }
+    ensures reader { OnOk result (R.has_failed reader.new ≡ false) }
+    ensures writer { OnOk result (W.has_failed writer.new ≡ false) }
 {
-    match block_of(alloc, message) {
-        Err(_) => Err(RunFault::Memory),
-        Ok(framed) => match send_all(writer, &framed) {
-            Ok(()) => Ok(()),
-            Err(_) => Err(RunFault::Line { n }),
-        },
+    match send_all(writer, bytes) {
+        Err(_) => Err(RunFault::Line { n }),
+        Ok(()) => answered(alloc, decoder, reader, control, n),
     }
 }
 
-/// Writes the block of the message of this number, and reads its acknowledgment. The faults are those of a courier.
-#[tactic(auto, using(crate::proofs::Carrying::unsent_so))]
-pub fn carry<R: Source, W: Sink>(
+// Writes the block of the message of this number, and reads its acknowledgment.
+#[tactic(auto, using(crate::proofs::Carrying::memory_unsent))]
+fn carry_message<R: Source, W: Sink>(
     alloc: Global,
     decoder: &mut Decoder,
     reader: &mut R,
@@ -82,16 +93,25 @@ pub fn carry<R: Source, W: Sink>(
 ) -> Result<Ack, RunFault>
     requires reads { R.has_failed reader.old ≡ false }
     requires writes { W.has_failed writer.old ≡ false }
-    ensures sent { IfOk result (Sent message.now (W.contents writer.old) (W.contents writer.new)
+    ensures sent { IfOk result (Sent (block (written message.now)) (control_of message.now) (W.contents writer.old) (W.contents writer.new)
         (spot R.remaining R.reads reader.old) (spot R.remaining R.reads reader.new) decoder.old decoder.new) }
     ensures unsent { IfErr result (Unsent n (W.has_failed writer.new) (R.has_failed reader.new) (R.reads reader.new)
-        message.now (W.contents writer.old) (W.contents writer.new) (spot R.remaining R.reads reader.old) decoder.old) }
+        (block (written message.now)) (control_of message.now) (W.contents writer.old) (W.contents writer.new)
+        (spot R.remaining R.reads reader.old) decoder.old) }
     ensures reader { OnOk result (R.has_failed reader.new ≡ false) }
     ensures writer { OnOk result (W.has_failed writer.new ≡ false) }
 {
-    match send(alloc, message, writer, n) {
-        Err(fault) => Err(fault),
-        Ok(()) => answered(alloc, decoder, reader, control_of(message), n),
+    match block_of(alloc, message) {
+        Err(_) => Err(RunFault::Memory),
+        Ok(bytes) => carry(
+            alloc,
+            decoder,
+            reader,
+            writer,
+            &bytes,
+            control_of(message),
+            n,
+        ),
     }
 }
 
@@ -159,7 +179,7 @@ pub fn courier<D: Door, R: Source, W: Sink>(
         };
         // (each round leaves a note, and no more notes than this can be)
         let _noted = door.notes().len();
-        let ack = carry(alloc, &mut decoder, reader, writer, translated.message(), n)?;
+        let ack = carry_message(alloc, &mut decoder, reader, writer, translated.message(), n)?;
         count(&mut counts, ack);
     }
 }

@@ -1,3 +1,4 @@
 pub mod Growing
 pub mod Turning
 pub mod Passing
+pub mod Naming

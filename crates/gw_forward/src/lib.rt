@@ -7,6 +7,7 @@
 mod barrier;
 mod fault;
 mod forwarding;
+mod laws;
 mod outbox;
 mod spooling;
 mod store;
@@ -14,6 +15,7 @@ mod store;
 pub use barrier::{Barrier, Safety};
 pub use fault::{ForwardFault, StoreFault};
 pub use forwarding::{Ended, forward};
+pub use laws::named_by_its_header;
 pub use outbox::Outbox;
 pub use spooling::spooler;
 pub use store::Store;

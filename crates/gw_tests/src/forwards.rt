@@ -17,14 +17,22 @@ const ACKED: &[u8] =
 const OTHER: &[u8] =
     b"\x0bMSH|^~\\&|GW|H2|LAB|H1|20240102030406||ACK^A01^ACK|G1|P|2.5.1\rMSA|AA|8\r\x1c\r";
 
+/// A record that is no message, though its header is one, and its block; and one that has no header.
+const LONG: &[u8] = b"MSH|^~\\&||||||||7\rno segment\r";
+
+const LONG_SENT: &[u8] = b"\x0bMSH|^~\\&||||||||7\rno segment\r\x1c\r";
+
+const NONE: &[u8] = b"PID||||||||2\r";
+
 /// An outbox of one record.
 #[derive(Drop)]
-struct One {
+struct One<'r> {
     alloc: Global,
+    record: &'r [u8],
     count: u64,
 }
 
-impl Outbox for One {
+impl Outbox for One<'_> {
     ghost use Rattle.std.specs.Prelude.{None};
 
     ghost taken = { λ _. None };
@@ -39,7 +47,7 @@ impl Outbox for One {
         if self.count > 0 {
             return Ok(None);
         }
-        Ok(Some(Vec::from_slice(self.alloc, RECORD)?))
+        Ok(Some(Vec::from_slice(self.alloc, self.record)?))
     }
 
     fn settle(&mut self, _bytes: &[u8], ack: Ack) -> Result<bool, StoreFault> {
@@ -75,8 +83,16 @@ impl Safety for Told {
 }
 
 // How a forwarder of one record ends over these answers, how many records were taken, and what it wrote.
-fn forwarded(alloc: Global, answers: &[u8]) -> (Result<Ended, ForwardFault>, u64, Vec<u8>) {
-    let mut outbox = One { alloc, count: 0 };
+fn forwarded(
+    alloc: Global,
+    record: &[u8],
+    answers: &[u8],
+) -> (Result<Ended, ForwardFault>, u64, Vec<u8>) {
+    let mut outbox = One {
+        alloc,
+        record,
+        count: 0,
+    };
     let mut written = Vec::new(alloc);
     let mut reader = Reads::new(answers);
     let mut writer = Writes::new(&mut written);
@@ -86,12 +102,23 @@ fn forwarded(alloc: Global, answers: &[u8]) -> (Result<Ended, ForwardFault>, u64
 
 #[test]
 fn a_record_is_taken_where_it_is_acknowledged(rt: HostRuntime) -> Result<(), Fail> {
-    let (ended, taken, written) = forwarded(rt.alloc(), ACKED);
+    let (ended, taken, written) = forwarded(rt.alloc(), RECORD, ACKED);
     assert_eq!(rt; ended, Ok(Ended::Closed));
     assert!(rt; taken == 1 && written.as_slice() == SENT);
-    let (ended, taken, written) = forwarded(rt.alloc(), OTHER);
+    let (ended, taken, written) = forwarded(rt.alloc(), RECORD, OTHER);
     assert_eq!(rt; ended, Err(ForwardFault::Line { n: 0 }));
     assert!(rt; taken == 0 && written.as_slice() == SENT);
+    Ok(())
+}
+
+#[test]
+fn of_a_record_the_header_alone_is_read(rt: HostRuntime) -> Result<(), Fail> {
+    let (ended, taken, written) = forwarded(rt.alloc(), LONG, ACKED);
+    assert_eq!(rt; ended, Ok(Ended::Closed));
+    assert!(rt; taken == 1 && written.as_slice() == LONG_SENT);
+    let (ended, taken, written) = forwarded(rt.alloc(), NONE, ACKED);
+    assert_eq!(rt; ended, Err(ForwardFault::Record { n: 0 }));
+    assert!(rt; taken == 0 && written.is_empty());
     Ok(())
 }
 

@@ -3,7 +3,7 @@ use crate::gateway::hub::{Destination, Hub};
 use crate::gateway::links::{Answers, Records, connect};
 use crate::gateway::outgoing::{Emptying, Outgoing};
 use crate::gateway::refused::Refused;
-use gw_forward::{Ended, ForwardFault, Outbox, forward};
+use gw_forward::{Ended, ForwardFault, Outbox, StoreFault, forward};
 use gw_stream::{Reads, RunFault, Writes};
 use std::cell::Cell;
 use std::fs::File;
@@ -56,7 +56,7 @@ impl<
     }
 
     // Sends what waits over this connection, until it ends.
-    fn send_over<O: Outbox>(&mut self, outbox: &mut O, stream: &TcpStream) -> After {
+    fn send_over(&mut self, outbox: &mut Emptying<'_, '_, R>, stream: &TcpStream) -> After {
         let rt = self.hub.rt;
         for _ in rt.forever() {
             let before = outbox.count();
@@ -69,6 +69,12 @@ impl<
             match ended {
                 Ok(Ended::Closed) => return After::Nothing,
                 Ok(Ended::Again) => self.wait(),
+                Err(ForwardFault::Record { .. }) => match outbox.put_aside() {
+                    Ok(true) => {}
+                    Ok(false) => self.wait(),
+                    Err(StoreFault::Memory) => return self.ended_by(ForwardFault::Memory),
+                    Err(StoreFault::Disk) => return self.ended_by(ForwardFault::Disk),
+                },
                 Err(fault) => return self.ended_by(fault),
             }
         }
@@ -83,7 +89,7 @@ impl<
             return After::Nothing;
         }
         let _ = match fault {
-            ForwardFault::Disk | ForwardFault::Record { .. } => {
+            ForwardFault::Disk => {
                 self.hub.fail(RunFault::Write);
                 return After::Nothing;
             }
@@ -97,7 +103,7 @@ impl<
     }
 
     // Connects, sends, and connects anew, until nothing more is sent.
-    fn run<O: Outbox>(&mut self, outbox: &mut O) {
+    fn run(&mut self, outbox: &mut Emptying<'_, '_, R>) {
         let rt = self.hub.rt;
         let address = self.to.address.as_slice();
         let mut is_down = false;

@@ -378,20 +378,28 @@ impl<R: Wait + Clock + Files<File = File> + Eprint + AllocGlobal> Emptying<'_, '
         self.refused.keep(self.rt, bytes)
     }
 
-    // The receiver refuses the first record.
-    fn refuse(&mut self, bytes: &[u8], code: &str) -> Result<bool, StoreFault>
+    // The first record isn't sent any more, for this reason.
+    fn refuse(&mut self, bytes: &[u8], why: &str) -> Result<bool, StoreFault>
         ensures { Counts result self.old.count self.new.count }
     {
         let name = self.name.escape_ascii();
         let path = self.refused.path();
         if self.keep(bytes)? {
-            let _ = eprintln!(self.rt; "receiver {name} answered {code}: the message is in {path}");
+            let _ = eprintln!(self.rt; "receiver {name} {why}: the message is in {path}");
             return self.drop_first(false);
         }
         let _ = eprintln!(self.rt;
-            "receiver {name} answered {code}: the message is sent again, since this file can't be written\n{path}"
+            "receiver {name} {why}: the message is sent again, since this file can't be written\n{path}"
         );
         Ok(false)
+    }
+
+    /// The first record can't be sent. False: it stays where it is.
+    pub(crate) fn put_aside(&mut self) -> Result<bool, StoreFault> {
+        match self.outgoing.next(self.rt, self.rt.alloc())? {
+            Some(bytes) => self.refuse(&bytes, "isn't sent a message whose header can't be read"),
+            None => Ok(true),
+        }
     }
 
     // The receiver rejects the first record, and may take it later.
@@ -400,7 +408,7 @@ impl<R: Wait + Clock + Files<File = File> + Eprint + AllocGlobal> Emptying<'_, '
     {
         self.tries = self.tries.saturating_add(1);
         if self.tries >= TRIES {
-            return self.refuse(bytes, "AR three times");
+            return self.refuse(bytes, "answered AR three times");
         }
         Ok(false)
     }
@@ -423,7 +431,7 @@ impl<R: Wait + Clock + Files<File = File> + Eprint + AllocGlobal> Outbox for Emp
         self.outgoing.tally.count_answer(ack);
         match ack {
             Ack::AA => self.drop_first(true),
-            Ack::AE => self.refuse(bytes, "AE"),
+            Ack::AE => self.refuse(bytes, "answered AE"),
             Ack::AR => self.retry(bytes),
         }
     }

@@ -23,7 +23,7 @@ impl<'a> Refused<'a> {
         self.path
     }
 
-    /// Adds a message to the file, framed, and brings it to the disk. False: the file can't be written.
+    /// Adds a message to the file, framed, and brings it to the disk. What no block may hold is added as it is. False: the file can't be written.
     pub(crate) fn keep<R: Files<File = File> + AllocGlobal>(
         &self,
         rt: &R,
@@ -32,6 +32,8 @@ impl<'a> Refused<'a> {
         let mut block = Vec::new(rt.alloc());
         if is_content(bytes) {
             write_block(&mut block, bytes)?;
+        } else {
+            block.extend_from_slice(bytes)?;
         }
         Ok(self.add(rt, &block).is_ok())
     }

@@ -58,7 +58,7 @@ trait Taker {
     fn end(&mut self) -> Result<(), Unsent>;
 }
 
-/// Sees whether each can be read.
+/// Sees whether each can be read. A translation may have more segments than are read.
 #[derive(Drop)]
 struct Check {
     alloc: Global,
@@ -67,7 +67,7 @@ struct Check {
 impl Taker for Check {
     fn take(&mut self, number: u64, content: &[u8]) -> Result<(), Unsent> {
         match read(self.alloc, content) {
-            Ok(_) => Ok(()),
+            Ok(_) | Err(ReadFault::TooManySegments) => Ok(()),
             Err(ReadFault::Memory) => Err(Unsent::Memory),
             Err(_) => Err(Unsent::Block(number)),
         }
