@@ -16,6 +16,7 @@ from loopback import ANSWERS, Differs, same
 NOBODY = "127.0.0.1:1"
 HEADER = """segment MSH R 1..1
   field 3 RE 0..1
+  field 8 RE 0..1
   field 9 R 1..1
     comp 1 R len 3
     comp 2 R len 3
@@ -26,7 +27,7 @@ HEADER = """segment MSH R 1..1
     comp 1 R len 5
   field 18 RE 0..* len 16
 """
-COPY = "segment MSH from MSH\n" + "".join(f"  copy {it} from MSH-{it}\n" for it in (3, 9, 10, 11, 12, 18))
+COPY = "segment MSH from MSH\n" + "".join(f"  copy {it} from MSH-{it}\n" for it in (3, 8, 9, 10, 11, 12, 18))
 
 
 def plan_for(receivers, source=HEADER, target=HEADER, items=COPY):
@@ -37,8 +38,9 @@ def plan_for(receivers, source=HEADER, target=HEADER, items=COPY):
     return "\n".join([*lines, "route ADT A01 from SOURCE", *(f"  to {name} by SMALL" for name in receivers)]) + "\n"
 
 
-def message(name, event=b"A01", sender=b"", more=b""):
-    return b"\x0bMSH|^~\\&|%s||||||ADT^%s|%s|P|2.5.1\r%s\x1c\r" % (sender, event, name, more)
+def message(name, event=b"A01", sender=b"", bulk=b"", more=b""):
+    """A message; an answer to it names its sender, and has nothing of the bulk."""
+    return b"\x0bMSH|^~\\&|%s|||||%s|ADT^%s|%s|P|2.5.1\r%s\x1c\r" % (sender, bulk, event, name, more)
 
 
 def burst(gateway, receivers=20, senders=12, each=500):
@@ -70,7 +72,7 @@ def many_sessions(gateway, most=101_000, at_once=100):
     """A round ends after 100,000 sessions: each has a part of the ledger, until the round's end."""
     (gateway.room / "plan").write_text(plan_for({"NOBODY": NOBODY}))
     gateway.start()
-    gateway.until += 60
+    gateway.until += 120
     at, now = ("127.0.0.1", gateway.port), struct.pack("ii", 1, 0)
     for done in range(0, most, at_once):
         lines = [socket.create_connection(at, 5) for _ in range(at_once)]
@@ -86,14 +88,14 @@ def many_sessions(gateway, most=101_000, at_once=100):
     gateway.kill()
 
 
-def large_messages(gateway, receivers=60, size=1_000_000):
+def large_messages(gateway, receivers=100, size=1_000_000):
     """A round ends after a number of bytes: its journal keeps each message, and a translation for each receiver."""
     others = "".join(f"receiver R{it} {NOBODY}\n" for it in range(receivers))
     (gateway.room / "plan").write_text(plan_for({"NOBODY": NOBODY}).replace("accept version", others + "accept version"))
     gateway.start()
     line = gateway.client()
-    for at in range(12):
-        same("an answer", True, b"MSA|AA|M%d\r" % at in (line.ask([message(b"M%d" % at, sender=b"x" * size)])[0] or b""))
+    for at in range(8):
+        same("an answer", True, b"MSA|AA|M%d\r" % at in (line.ask([message(b"M%d" % at, bulk=b"x" * size)])[0] or b""))
     is_in_round(gateway, 2)
     gateway.kill()
 
