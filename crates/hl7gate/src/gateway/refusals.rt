@@ -103,8 +103,8 @@ impl<R: Wait + Eprint> Logged<'_, '_, R> {
 
 impl<R: Wait + Eprint> Write for Logged<'_, '_, R> {
     fn write(&mut self, buf: &[u8]) -> io::Result<usize> {
-        let count = self.send(buf)?;
-        self.take(&buf[..count.min(buf.len())]);
+        let count = self.send(buf)?.min(buf.len());
+        self.take(&buf[..count]);
         Ok(count)
     }
 
