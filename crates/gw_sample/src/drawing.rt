@@ -1,6 +1,6 @@
 //! A sample as it is written: its segments, fields, components and subcomponents between the separators (HL7 v2.5.1 chapter 2, 2.5.4).
 
-use crate::extent::{Extent, count, is_beyond, is_within};
+use crate::extent::{Extent, count, field_count, is_beyond, is_within};
 use crate::leaf::{Texts, Values};
 use crate::parts::{Filler, filler_of, is_drawn};
 use crate::text::{Undrawn, put, separate};
@@ -71,6 +71,11 @@ fn draw_within(
     Ok(at)
 }
 
+// The first subcomponent that a component may have beyond those that are listed: the second, so that one is there without a first, but for long texts.
+fn first_within(sketch: &Sketch<'_>) -> u32 {
+    if sketch.values.are_long() { 1 } else { 2 }
+}
+
 // A component that is present.
 fn draw_comp(
     sketch: &Sketch<'_>,
@@ -80,7 +85,7 @@ fn draw_comp(
 ) -> Result<(), Undrawn> {
     let filler = filler_of(sketch.extent, subs);
     let mut at = 1;
-    let mut next = 1;
+    let mut next = first_within(sketch);
     for sub in subs {
         at = draw_within(sketch, text, at, next, sub.number)?;
         next = sub.number.saturating_add(1);
@@ -184,7 +189,7 @@ fn draw_fields(
 ) -> Result<(), Undrawn> {
     let mut at = first;
     for field in &segment.fields {
-        let reps = count(sketch.extent, field.card);
+        let reps = field_count(sketch.extent, field.card);
         if reps > 0 {
             separate(text, b'|', at, field.number)?;
             draw_reps(sketch, text, usual(segment.name, field.number), field, reps)?;

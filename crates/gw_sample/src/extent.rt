@@ -9,7 +9,10 @@ pub enum Extent {
     Least,
     /// Each element that may be there, and twice what may come twice.
     Most,
-    /// The segments and fields of the most, and of each field the components and subcomponents that have to be there.
+    /// The segments of the most, and of each the fields that have to be there.
+    MostSegments,
+    /// The segments and fields of the most, and of each field the components and subcomponents that have to be there. One without such a part has
+    /// one that the profile doesn't list.
     MostFields,
     /// The least, and in each field the components up to the ninth that the profile doesn't list.
     LeastBeyond,
@@ -23,7 +26,7 @@ pub enum Extent {
 pub(crate) fn is_beyond(extent: Extent) -> bool {
     match extent {
         Extent::LeastBeyond | Extent::MostBeyond | Extent::MostWithin => true,
-        Extent::Least | Extent::Most | Extent::MostFields => false,
+        Extent::Least | Extent::Most | Extent::MostSegments | Extent::MostFields => false,
     }
 }
 
@@ -32,19 +35,32 @@ pub(crate) fn is_within(extent: Extent) -> bool {
     extent == Extent::MostWithin
 }
 
-// Whether only the segments and fields are asked for that have to be there.
-fn has_least_fields(extent: Extent) -> bool {
+/// Whether nothing is asked for that the profile lists as optional, in what is present of it.
+pub(crate) fn is_bare(extent: Extent) -> bool {
+    extent == Extent::MostFields
+}
+
+// Whether only what has to be there is asked for, of what the profile lists.
+fn is_least(extent: Extent) -> bool {
     match extent {
         Extent::Least | Extent::LeastBeyond => true,
-        Extent::Most | Extent::MostFields | Extent::MostBeyond | Extent::MostWithin => false,
+        _ => false,
     }
 }
 
-/// How often a sample has an element of this cardinality.
+/// How often a sample has a field of this cardinality.
+pub(crate) fn field_count(extent: Extent, card: Card) -> u32 {
+    if extent == Extent::MostSegments {
+        return card.min;
+    }
+    count(extent, card)
+}
+
+/// How often a sample has a segment or group of this cardinality.
 pub(crate) fn count(extent: Extent, card: Card) -> u32 {
     let Card { min, max } = card;
     match max {
-        _ if has_least_fields(extent) || min > 1 => min,
+        _ if is_least(extent) || min > 1 => min,
         Some(max) if max < 2 => max,
         _ => 2,
     }
@@ -55,6 +71,6 @@ pub(crate) fn is_shown(extent: Extent, usage: Usage) -> bool {
     match usage {
         Usage::R => true,
         Usage::X => false,
-        _ => !has_least_fields(extent) && extent != Extent::MostFields,
+        _ => !is_least(extent) && extent != Extent::MostSegments && !is_bare(extent),
     }
 }

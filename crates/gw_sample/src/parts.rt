@@ -1,6 +1,6 @@
 //! Components and subcomponents alike: which of them a sample has.
 
-use crate::extent::{Extent, is_shown};
+use crate::extent::{Extent, is_bare, is_shown};
 use gw_profile::{CompShape, SubShape, Usage};
 
 /// A component or a subcomponent of a profile.
@@ -37,7 +37,7 @@ pub(crate) enum Filler {
     Needless,
     /// The first that is not X, by its number.
     Listed(u32),
-    /// Each is X, or none is listed: the one behind the last.
+    /// Each is X, or none is listed, or none that is optional is asked for: the one behind the last.
     Unlisted(u32),
 }
 
@@ -49,7 +49,7 @@ pub(crate) fn filler_of<P: Part>(extent: Extent, parts: &[P]) -> Filler {
         if is_shown(extent, part.usage()) {
             return Filler::Needless;
         }
-        if allowed.is_none() && part.usage() != Usage::X {
+        if allowed.is_none() && part.usage() != Usage::X && !is_bare(extent) {
             allowed = Some(part.number());
         }
         last = part.number();

@@ -25,9 +25,10 @@ const LENGTHS: usize = 16;
 const SHOWN: usize = 1_000_000;
 
 /// Which samples are tried with the first value of each table, and with long texts.
-const EXTENTS: [Extent; 6] = [
+const EXTENTS: [Extent; 7] = [
     Extent::Least,
     Extent::Most,
+    Extent::MostSegments,
     Extent::MostFields,
     Extent::LeastBeyond,
     Extent::MostBeyond,
