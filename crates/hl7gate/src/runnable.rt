@@ -113,7 +113,7 @@ fn write_drops(out: &mut Vec<u8>, source: &Profile, unread: &[FieldAt]) -> io::R
 }
 
 /// The map between these profiles, where its target demands nothing of fields. `unread` are the fields of the source that it passes over.
-pub(crate) fn runnable(
+pub(crate) fn make_runnable(
     alloc: Global,
     sides: &ProfilePair,
     map: &[u8],

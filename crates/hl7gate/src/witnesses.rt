@@ -3,7 +3,7 @@ use crate::advice::{Refused, Written};
 use crate::breaches::{Spot, spot_of, words_of};
 use crate::maps::ProfilePair;
 use crate::refusals::write_place;
-use crate::runnable::{Runnable, runnable};
+use crate::runnable::{Runnable, make_runnable};
 use gw_check::CheckedMap;
 use gw_er7::Message;
 use gw_profile::{Node, Profile, SegNode};
@@ -301,7 +301,7 @@ fn lengths(alloc: Global, target: &Profile) -> Result<BTreeMap<u32, u64>, AllocE
 }
 
 /// The samples that show by a map why it is refused, as text.
-fn shown(alloc: Global, map: &CheckedMap, target: &Profile) -> Result<Vec<u8>, RunFault> {
+fn samples_of(alloc: Global, map: &CheckedMap, target: &Profile) -> Result<Vec<u8>, RunFault> {
     let mut shown = Shown {
         spots: BTreeMap::new(alloc),
         out: Vec::new(alloc),
@@ -320,8 +320,8 @@ pub(crate) fn witnesses(
     written: &Written<'_>,
     refused: &Refused,
 ) -> Result<Vec<u8>, RunFault> {
-    match runnable(alloc, sides, &written.text, &refused.used.unread)? {
-        Runnable::Checked(map) => shown(alloc, &map, &sides.target),
+    match make_runnable(alloc, sides, &written.text, &refused.used.unread)? {
+        Runnable::Checked(map) => samples_of(alloc, &map, &sides.target),
         Runnable::Broken(rule, line) => broken(alloc, rule, line, &sides.target),
         Runnable::TooLarge => Ok(Vec::from_slice(alloc, NONE_TRIED)?),
     }
