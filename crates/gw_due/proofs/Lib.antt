@@ -1,0 +1,6 @@
+pub mod Growing
+pub mod Covering
+pub mod Numbers
+pub mod Forms
+pub mod EventForms
+pub mod Parts

@@ -1,0 +1,7 @@
+pub mod Events
+pub mod Due
+pub mod Lawful
+pub mod Runs
+pub mod Spelling
+pub mod Views
+pub mod own

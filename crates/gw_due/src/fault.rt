@@ -1,0 +1,61 @@
+//! Why bytes were not read or written, and why a state is as it was.
+ghost use Rattle.std.specs.Prelude.{◌≡◌};
+ghost use Rattle.gw_due.specs.declared.fault.ReadFault.TheVariants as read;
+ghost use Rattle.gw_due.specs.declared.fault.SpellFault.TheVariants as spelling;
+
+use std::alloc::{AllocError, AllocFailed};
+use thiserror::Error;
+
+/// Why bytes were not read.
+#[derive(Clone, Copy, Debug, PartialEq, Eq, Error)]
+pub enum ReadFault {
+    /// An allocation failed.
+    #[error("out of memory")]
+    Memory,
+    /// Nothing is spelled so.
+    #[error("the bytes are no record of a gateway's log")]
+    Unreadable,
+}
+
+impl From<AllocError> for ReadFault {
+    ghost from_gives = { λ _ e. e ≡ read.Memory };
+
+    fn from(_error: AllocError) -> ReadFault {
+        ReadFault::Memory
+    }
+}
+
+impl<T: Drop> From<AllocFailed<T>> for ReadFault {
+    ghost from_gives = { λ _ e. e ≡ read.Memory };
+
+    fn from(_error: AllocFailed<T>) -> ReadFault {
+        ReadFault::Memory
+    }
+}
+
+/// Why an event was not written.
+#[derive(Clone, Copy, Debug, PartialEq, Eq, Error)]
+pub enum SpellFault {
+    /// An allocation failed.
+    #[error("out of memory")]
+    Memory,
+    /// A text has more than 4,294,967,295 bytes, or there are more receivers than that.
+    #[error("a part of the record has no length in four bytes")]
+    TooLong,
+}
+
+impl From<AllocError> for SpellFault {
+    ghost from_gives = { λ _ e. e ≡ spelling.Memory };
+
+    fn from(_error: AllocError) -> SpellFault {
+        SpellFault::Memory
+    }
+}
+
+impl<T: Drop> From<AllocFailed<T>> for SpellFault {
+    ghost from_gives = { λ _ e. e ≡ spelling.Memory };
+
+    fn from(_error: AllocFailed<T>) -> SpellFault {
+        SpellFault::Memory
+    }
+}

@@ -1,0 +1,43 @@
+//! What holds of the definitions.
+ghost use Rattle.std.specs.Prelude.{◌≡◌, ◌<◌, ◌++◌, List, ℕ, drop, length};
+ghost use mathlib.Core.List.{IsPrefix};
+ghost use Rattle.gw_due.specs.Events.{Event};
+ghost use Rattle.gw_due.specs.Due.{due, passed, plan_at};
+ghost use Rattle.gw_due.specs.Lawful.{Lawful};
+ghost use Rattle.gw_due.specs.Runs.{Covers, Runs};
+ghost use Rattle.gw_due.specs.Spelling.{Entry, Fits, spelled};
+
+/// What a plan says of a message.
+pub trait Rules {
+    /// By the plan of this text, these are the receivers of the message of these bytes, which conforms to the profile of its route.
+    ghost routes: { (plan to bytes : List ℕ) → Type 0 };
+}
+
+/// In a lawful log each receiver passes what is due to it in order. Nothing is passed over.
+pub fn in_order<R: Rules>()
+    ensures { (log : List Event) → Lawful R.routes log → (r : ℕ) → IsPrefix (passed r log) (due r log) }
+{}
+
+/// What is due stays due, at its place, and what was passed stays so, as a log grows.
+pub fn only_grows()
+    ensures due { (r : ℕ) (log more : List Event) → IsPrefix (due r log) (due r (log ++ more)) }
+    ensures passed { (r : ℕ) (log more : List Event) → IsPrefix (passed r log) (passed r (log ++ more)) }
+{}
+
+/// A place has one plan, for good.
+pub fn one_plan()
+    ensures { (place : ℕ) (log more : List Event) → place < length log →
+        plan_at place (log ++ more) ≡ plan_at place log }
+{}
+
+/// Over all runs of a gateway, a receiver was sent what was due to it, in order. None was passed over, and each was sent once,
+/// but for the one that was sent and not yet passed when a run ended.
+pub fn covered<R: Rules>()
+    ensures { (r : ℕ) (old new : List Event) (sent : List (List ℕ)) → Runs r old sent new →
+        Lawful R.routes new → Covers (drop (length (passed r old)) (due r new)) sent }
+{}
+
+/// Bytes spell one record at most.
+pub fn one_spelling()
+    ensures { (these those : Entry) → Fits these → Fits those → spelled these ≡ spelled those → these ≡ those }
+{}

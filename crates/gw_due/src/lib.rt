@@ -1,0 +1,16 @@
+//! What a gateway's log says, and what is due by it.
+//!
+//! A record of the log is an [`Event`] with its time. What is due to a receiver, what it has passed, and which plan a message is under
+//! are functions of the events alone.
+#![tactic(auto)]
+
+mod event;
+mod fault;
+pub mod laws;
+mod reading;
+mod writing;
+
+pub use event::{Entry, Event, How};
+pub use fault::{ReadFault, SpellFault};
+pub use reading::read;
+pub use writing::spell;
