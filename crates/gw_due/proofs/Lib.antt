@@ -3,4 +3,5 @@ pub mod Covering
 pub mod Numbers
 pub mod Forms
 pub mod EventForms
+pub mod Receivers
 pub mod Parts

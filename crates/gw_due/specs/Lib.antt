@@ -4,4 +4,5 @@ pub mod Lawful
 pub mod Runs
 pub mod Spelling
 pub mod Views
+pub mod State
 pub mod own

@@ -1,1 +1,3 @@
+-- The program's own words: no public contract rests on them.
 pub mod Reading
+pub mod Steps

@@ -1,7 +1,8 @@
-//! Why bytes were not read or written, and why a state is as it was.
+//! Why bytes were not read or written, and why a state stayed as it was.
 ghost use Rattle.std.specs.Prelude.{◌≡◌};
 ghost use Rattle.gw_due.specs.declared.fault.ReadFault.TheVariants as read;
 ghost use Rattle.gw_due.specs.declared.fault.SpellFault.TheVariants as spelling;
+ghost use Rattle.gw_due.specs.declared.fault.StateFault.TheVariants as states;
 
 use std::alloc::{AllocError, AllocFailed};
 use thiserror::Error;
@@ -57,5 +58,35 @@ impl<T: Drop> From<AllocFailed<T>> for SpellFault {
 
     fn from(_error: AllocFailed<T>) -> SpellFault {
         SpellFault::Memory
+    }
+}
+
+/// Why a state stayed as it was.
+#[derive(Clone, Copy, Debug, PartialEq, Eq, Error)]
+pub enum StateFault {
+    /// An allocation failed.
+    #[error("out of memory")]
+    Memory,
+    /// A place or a count has no number above it in eight bytes.
+    #[error("the log has no room")]
+    Full,
+    /// The event may not follow the log.
+    #[error("the event may not follow the log")]
+    Unlawful,
+}
+
+impl From<AllocError> for StateFault {
+    ghost from_gives = { λ _ e. e ≡ states.Memory };
+
+    fn from(_error: AllocError) -> StateFault {
+        StateFault::Memory
+    }
+}
+
+impl<T: Drop> From<AllocFailed<T>> for StateFault {
+    ghost from_gives = { λ _ e. e ≡ states.Memory };
+
+    fn from(_error: AllocFailed<T>) -> StateFault {
+        StateFault::Memory
     }
 }

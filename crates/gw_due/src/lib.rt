@@ -6,11 +6,16 @@
 
 mod event;
 mod fault;
+mod following;
 pub mod laws;
 mod reading;
+mod receiver;
+mod state;
 mod writing;
 
 pub use event::{Entry, Event, How};
-pub use fault::{ReadFault, SpellFault};
+pub use fault::{ReadFault, SpellFault, StateFault};
 pub use reading::read;
+pub use receiver::Receiver;
+pub use state::State;
 pub use writing::spell;
