@@ -27,7 +27,7 @@ get_front [] ys x e = absurd (cc)
 get_front (z ∷ xs) ys x e = e
 
 -- what is left of a longer list
-drop_more : (n : List ℕ) (xs ys zs : List ℕ) → n ++ zs ≡ xs → drop (length n) (xs ++ ys) ≡ drop (length n) xs ++ ys
+pub drop_more : (n : List ℕ) (xs ys zs : List ℕ) → n ++ zs ≡ xs → drop (length n) (xs ++ ys) ≡ drop (length n) xs ++ ys
 drop_more n xs ys zs is =
     ap (λ l. drop (length n) (l ++ ys)) (sym is) ∙ ap (λ l. drop (length n) l) (append_assoc n zs ys) ∙ drop_front n (zs ++ ys)
     ∙ ap (λ l. l ++ ys) (sym (drop_front n zs) ∙ ap (λ l. drop (length n) l) is)

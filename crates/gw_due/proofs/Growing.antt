@@ -5,7 +5,7 @@ use Rattle.std.proofs.lemmas.Bool.{eqb-true}
 use Rattle.std.proofs.lemmas.List.{append-nil}
 use mathlib.Core.List.{IsPrefix}
 use Rattle.gw_due.specs.Events.{Event, Planned, Accepted, Again, Passed, Named, Margin, Retired, How}
-use Rattle.gw_due.specs.Due.{due_by, due_from, due, passed_by, passed, left, plan, plan_at}
+use Rattle.gw_due.specs.Due.{due_by, due_from, due, passed_by, passed, refused_by, refused, left, plan, plan_at}
 use Rattle.gw_due.specs.Lawful.{Lawful, no_event, one_more, MayFollow}
 
 pub due_append : (r at : ℕ) (xs ys : List Event) → due_from r at (xs ++ ys) ≡ due_from r at xs ++ due_from r (at + length xs) ys
@@ -18,6 +18,10 @@ due_append r at (x ∷ xs) ys =
 pub passed_append : (r : ℕ) (xs ys : List Event) → passed r (xs ++ ys) ≡ passed r xs ++ passed r ys
 passed_append r [] ys = refl
 passed_append r (x ∷ xs) ys = ap (λ l. passed_by r x ++ l) (passed_append r xs ys) ∙ sym (append_assoc (passed_by r x) (passed r xs) (passed r ys))
+
+pub refused_append : (r : ℕ) (xs ys : List Event) → refused r (xs ++ ys) ≡ refused r xs ++ refused r ys
+refused_append r [] ys = refl
+refused_append r (x ∷ xs) ys = ap (λ l. refused_by r x ++ l) (refused_append r xs ys) ∙ sym (append_assoc (refused_by r x) (refused r xs) (refused r ys))
 
 pub due_grows : (r : ℕ) (log more : List Event) → IsPrefix (due r log) (due r (log ++ more))
 due_grows r log more = (due_from r (0 + length log) more, sym (due_append r 0 log more))

@@ -3,5 +3,10 @@ pub mod Covering
 pub mod Numbers
 pub mod Forms
 pub mod EventForms
+pub mod Naming
+pub mod Stating
+pub mod Deciding
+pub mod Telling
+pub mod Standing
 pub mod Receivers
 pub mod Parts

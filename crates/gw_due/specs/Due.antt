@@ -1,7 +1,7 @@
 -- What is due by a log, what was passed, and which plan is in force.
 use Rattle.std.specs.Prelude.{ℕ, ◌+◌, Bool, nat_eq, if◌then◌else◌, List, [], ◌∷◌, ◌++◌, length, take, drop, Option, Some, None}
 use Rattle.std.specs.List.{fold, list_any}
-use Rattle.gw_due.specs.Events.{Event, Planned, Accepted, Again, Passed, Named, Margin, Retired}
+use Rattle.gw_due.specs.Events.{Refused, Event, Planned, Accepted, Again, Passed, Named, Margin, Retired}
 
 -- a receiver is one of these
 abbrev pub is_among : ℕ → List ℕ → Bool
@@ -32,6 +32,15 @@ passed_by r _ = []
 abbrev pub passed : ℕ → List Event → List ℕ
 passed r [] = []
 passed r (e ∷ log) = passed_by r e ++ passed r log
+
+abbrev pub refused_by : ℕ → Event → List ℕ
+refused_by r (Passed receiver place (Refused code reason)) = if nat_eq receiver r then place ∷ [] else []
+refused_by r _ = []
+
+-- those of them that it refused
+abbrev pub refused : ℕ → List Event → List ℕ
+refused r [] = []
+refused r (e ∷ log) = refused_by r e ++ refused r log
 
 -- what is left of what is due
 abbrev pub left : ℕ → List Event → List ℕ

@@ -5,4 +5,5 @@ pub mod Runs
 pub mod Spelling
 pub mod Views
 pub mod State
+pub mod Says
 pub mod own

@@ -1,10 +1,13 @@
 //! What holds of the definitions.
-ghost use Rattle.std.specs.Prelude.{◌≡◌, ◌<◌, ◌++◌, List, ℕ, drop, length};
+ghost use Rattle.std.specs.Prelude.{◌≡◌, ◌↔◌, ◌<◌, ◌++◌, List, ℕ, drop, length, IsTrue};
+ghost use Rattle.std.specs.List.{fold};
 ghost use mathlib.Core.List.{IsPrefix};
 ghost use Rattle.gw_due.specs.Events.{Event};
 ghost use Rattle.gw_due.specs.Due.{due, passed, plan_at};
-ghost use Rattle.gw_due.specs.Lawful.{Lawful};
+ghost use Rattle.gw_due.specs.Lawful.{Lawful, MayFollow};
 ghost use Rattle.gw_due.specs.Runs.{Covers, Runs};
+ghost use Rattle.gw_due.specs.State.{after, allows, state_of};
+ghost use Rattle.gw_due.specs.Says.{Says, IsSeen};
 ghost use Rattle.gw_due.specs.Spelling.{Entry, Fits, spelled};
 
 /// What a plan says of a message.
@@ -40,4 +43,20 @@ pub fn covered<R: Rules>()
 /// Bytes spell one record at most.
 pub fn one_spelling()
     ensures { (these those : Entry) → Fits these → Fits those → spelled these ≡ spelled those → these ≡ those }
+{}
+
+/// The state of a log goes on from the state of what stands before: a start needs that state, and what stands behind it.
+pub fn a_state_goes_on()
+    ensures { (before here : List Event) → state_of (before ++ here) ≡ fold after (state_of before) here }
+{}
+
+/// The state of a lawful log says what the log does. What is left for a receiver is what is due to it from its place on.
+pub fn a_state_tells<R: Rules>()
+    ensures { (log : List Event) → Lawful R.routes log → Says log (state_of log) }
+{}
+
+/// An event may follow a lawful log exactly where its state allows it and the log shows the rest.
+pub fn a_state_decides<R: Rules>()
+    ensures { (log : List Event) (e : Event) → Lawful R.routes log →
+        MayFollow R.routes log e ↔ (IsTrue (allows (state_of log) e) × IsSeen R.routes log e) }
 {}
