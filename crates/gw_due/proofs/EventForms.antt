@@ -11,12 +11,12 @@ use Rattle.gw_due.specs.declared.fault.ReadFault.TheVariants.{Memory, Unreadable
 use Rattle.gw_due.specs.own.Reading.{Gives, Reader, ◌>>=◌, both, made, number_at, text_at, receivers_at, how_of, how_at, accepted_at, passed_at, named_at, again_at, event_of, event_at, entry_of}
 use Rattle.gw_due.proofs.Forms.{IsBytes, IsBytes-rest, Takes-then, Reads, IsForm, BothFit, both_spelled, both_form, made_reads, made_again, bind_some, guard, some_is, Below32, Below64, number32, number64, text_form, receivers_form}
 
-pick : {A : Type 0} (b : Bool) (x y : Option A) (z : A) → cond b x y ≡ Some z → ((b ≡ true) × (x ≡ Some z)) ⊎ ((b ≡ false) × (y ≡ Some z))
+pub pick : {A : Type 0} (b : Bool) (x y : Option A) (z : A) → cond b x y ≡ Some z → ((b ≡ true) × (x ≡ Some z)) ⊎ ((b ≡ false) × (y ≡ Some z))
 pick true x y z e = inl (refl, e)
 pick false x y z e = inr (refl, e)
 
 -- what was made of a part behind a tag
-tag_reads : {A B : Type 0} (F : A → Type 0) (f : A → List ℕ) (at : Reader A) (form : IsForm F f at) (make : A → B) (G : B → Type 0) (g : B → List ℕ) (k : ℕ)
+pub tag_reads : {A B : Type 0} (F : A → Type 0) (f : A → List ℕ) (at : Reader A) (form : IsForm F f at) (make : A → B) (G : B → Type 0) (g : B → List ℕ) (k : ℕ)
     → ((a : A) → g (make a) ≡ k ∷ f a) → ((a : A) → F a → G (make a))
     → (tag : ℕ) (rest : List ℕ) (x : B × List ℕ) → IsBytes (tag ∷ rest) → eqb tag k ≡ true → made make at rest ≡ Some x → Reads G g (tag ∷ rest) x.0 x.1
 tag_reads {A} {B} F f at form make G g k same fit tag rest x is at_tag e =
@@ -31,7 +31,7 @@ tag_reads {A} {B} F f at form make G g k same fit tag rest x is at_tag e =
     subst (λ (b : B). Reads G g (tag ∷ rest) b x.1) r.1 here
 
 -- a tag with nothing behind it
-alone : {B : Type 0} (b : B) (G : B → Type 0) (g : B → List ℕ) (k : ℕ) → g b ≡ k ∷ [] → G b → (tag : ℕ) (rest : List ℕ) (x : B × List ℕ) → IsBytes (tag ∷ rest) → eqb tag k ≡ true → Some (b, rest) ≡ Some x → Reads G g (tag ∷ rest) x.0 x.1
+pub alone : {B : Type 0} (b : B) (G : B → Type 0) (g : B → List ℕ) (k : ℕ) → g b ≡ k ∷ [] → G b → (tag : ℕ) (rest : List ℕ) (x : B × List ℕ) → IsBytes (tag ∷ rest) → eqb tag k ≡ true → Some (b, rest) ≡ Some x → Reads G g (tag ∷ rest) x.0 x.1
 alone {B} b G g k same fit tag rest x is at_tag e =
     let here : Reads G g (tag ∷ rest) b rest = record {
       takes = record { parts = ap (λ t. t ∷ rest) (eqb-true tag k at_tag) ∙ sym (ap (λ (l : List ℕ). l ++ rest) same); rest_fits = IsBytes-rest tag rest is };

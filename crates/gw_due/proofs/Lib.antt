@@ -5,6 +5,7 @@ pub mod Forms
 pub mod EventForms
 pub mod Naming
 pub mod Stating
+pub mod StateForms
 pub mod Deciding
 pub mod Telling
 pub mod Standing

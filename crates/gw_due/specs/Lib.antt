@@ -6,4 +6,5 @@ pub mod Spelling
 pub mod Views
 pub mod State
 pub mod Says
+pub mod Checkpoint
 pub mod own

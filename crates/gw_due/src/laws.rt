@@ -6,7 +6,8 @@ ghost use Rattle.gw_due.specs.Events.{Event};
 ghost use Rattle.gw_due.specs.Due.{due, passed, plan_at};
 ghost use Rattle.gw_due.specs.Lawful.{Lawful, MayFollow};
 ghost use Rattle.gw_due.specs.Runs.{Covers, Runs};
-ghost use Rattle.gw_due.specs.State.{after, allows, state_of};
+ghost use Rattle.gw_due.specs.State.{State, after, allows, state_of};
+ghost use Rattle.gw_due.specs.Checkpoint.{StateFits, checkpoint};
 ghost use Rattle.gw_due.specs.Says.{Says, IsSeen};
 ghost use Rattle.gw_due.specs.Spelling.{Entry, Fits, spelled};
 
@@ -43,6 +44,12 @@ pub fn covered<R: Rules>()
 /// Bytes spell one record at most.
 pub fn one_spelling()
     ensures { (these those : Entry) → Fits these → Fits those → spelled these ≡ spelled those → these ≡ those }
+{}
+
+/// Bytes spell one state at most.
+pub fn one_checkpoint()
+    ensures { (these those : State) → StateFits these → StateFits those →
+        checkpoint these ≡ checkpoint those → these ≡ those }
 {}
 
 /// The state of a log goes on from the state of what stands before: a start needs that state, and what stands behind it.

@@ -4,6 +4,7 @@
 //! are functions of the events alone.
 #![tactic(auto)]
 
+mod checkpoint;
 mod event;
 mod fault;
 mod following;

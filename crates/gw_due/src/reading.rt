@@ -10,7 +10,7 @@ use crate::event::{Entry, Event, How};
 use crate::fault::ReadFault;
 use std::alloc::Global;
 
-fn byte_at(bytes: &[u8]) -> Result<(u8, &[u8]), ReadFault>
+pub(crate) fn byte_at(bytes: &[u8]) -> Result<(u8, &[u8]), ReadFault>
     ensures { Gives (λ x. (x.0, x.1.now)) result (byte_at bytes.now) }
 {
     match bytes {
@@ -26,7 +26,7 @@ fn u32_of(bytes: &[u8]) -> u32
     u32::from_be_bytes([bytes[0], bytes[1], bytes[2], bytes[3]])
 }
 
-fn u32_at(bytes: &[u8]) -> Result<(u32, &[u8]), ReadFault>
+pub(crate) fn u32_at(bytes: &[u8]) -> Result<(u32, &[u8]), ReadFault>
     ensures { Gives (λ x. (x.0, x.1.now)) result (number_at w32 bytes.now) }
 {
     if bytes.len() < 4 {
@@ -36,7 +36,7 @@ fn u32_at(bytes: &[u8]) -> Result<(u32, &[u8]), ReadFault>
     Ok((u32_of(front), rest))
 }
 
-fn u64_at(bytes: &[u8]) -> Result<(u64, &[u8]), ReadFault>
+pub(crate) fn u64_at(bytes: &[u8]) -> Result<(u64, &[u8]), ReadFault>
     ensures { Gives (λ x. (x.0, x.1.now)) result (number_at w64 bytes.now) }
 {
     if bytes.len() < 8 {
@@ -50,7 +50,7 @@ fn u64_at(bytes: &[u8]) -> Result<(u64, &[u8]), ReadFault>
 }
 
 #[tactic(auto, unfolding(crate::specs::own::Reading::text_at))]
-fn text_at(bytes: &[u8]) -> Result<(&[u8], &[u8]), ReadFault>
+pub(crate) fn text_at(bytes: &[u8]) -> Result<(&[u8], &[u8]), ReadFault>
     ensures { Gives (λ x. (x.0.now, x.1.now)) result (text_at bytes.now) }
 {
     let (len, rest) = u32_at(bytes)?;

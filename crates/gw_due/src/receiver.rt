@@ -66,6 +66,20 @@ impl Receiver {
         })
     }
 
+    // The same, with these counts.
+    pub(crate) fn with_counts(self, from: u64, left: u64, refused: u64) -> Self
+        ensures { result ≡ record self { from = from; left = left; refused = refused } }
+    {
+        Receiver {
+            number: self.number,
+            name: self.name,
+            address: self.address,
+            from,
+            left,
+            refused,
+        }
+    }
+
     /// Its number, for good.
     pub fn number(&self) -> u32
         ensures { result ≡ self.now.number }

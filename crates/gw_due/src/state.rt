@@ -98,6 +98,26 @@ impl State {
         }
     }
 
+    pub(crate) fn restored(
+        next: u64,
+        plan: Option<u64>,
+        last: Option<u64>,
+        margin: u64,
+        oldest: u64,
+        receivers: Vec<Receiver>,
+    ) -> Self
+        ensures { result ≡ record { next = next; plan = plan; last = last; margin = margin; oldest = oldest; receivers = receivers.items } }
+    {
+        State {
+            next,
+            plan,
+            last,
+            margin,
+            oldest,
+            receivers,
+        }
+    }
+
     /// The place of the next record.
     pub fn next(&self) -> u64
         ensures { result ≡ self.now.next }

@@ -9,7 +9,7 @@ use crate::event::{Entry, Event, How};
 use crate::fault::SpellFault;
 use std::alloc::AllocError;
 
-fn is_short(bytes: &[u8]) -> bool
+pub(crate) fn is_short(bytes: &[u8]) -> bool
     ensures { IsTrue result ↔ IsShort bytes.now }
 {
     bytes.len() <= u32::MAX as usize
@@ -74,7 +74,7 @@ fn fits(event: &Event<'_>) -> bool
     }
 }
 
-fn put_text(out: &mut Vec<u8>, text: &[u8]) -> Result<(), AllocError>
+pub(crate) fn put_text(out: &mut Vec<u8>, text: &[u8]) -> Result<(), AllocError>
     requires { IsShort text.now }
     ensures { OnOk result (out.new.items ≡ out.old.items ++ spelling.text text.now) }
 {

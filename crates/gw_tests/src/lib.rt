@@ -12,6 +12,8 @@ mod crews;
 #[cfg(test)]
 mod desks;
 #[cfg(test)]
+mod dues;
+#[cfg(test)]
 mod failures;
 #[cfg(test)]
 mod forwards;
