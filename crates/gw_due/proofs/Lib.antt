@@ -11,3 +11,4 @@ pub mod Telling
 pub mod Standing
 pub mod Receivers
 pub mod Parts
+pub mod Pairs

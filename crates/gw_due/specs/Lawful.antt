@@ -1,5 +1,5 @@
 -- Which event may follow a log.
-use Rattle.std.specs.Prelude.{◌≡◌, ⊤, ℕ, ◌<◌, ◌≤◌, Bool, not, nat_eq, bytes_eq, if◌then◌else◌, IsTrue, List, [], ◌∷◌, ◌++◌, Some, IfSome, slice_get}
+use Rattle.std.specs.Prelude.{◌≡◌, ◌↔◌, ⊤, ℕ, ◌<◌, ◌≤◌, Bool, not, nat_eq, bytes_eq, if◌then◌else◌, IsTrue, List, [], ◌∷◌, ◌++◌, Some, IfSome, slice_get}
 use Rattle.std.specs.List.{list_any, list_all}
 use Rattle.gw_due.specs.Events.{Event, Planned, Accepted, Again, Passed, Named, Margin, Retired}
 use Rattle.gw_due.specs.Due.{left, plan, last, margin, oldest, Name, names}
@@ -18,6 +18,10 @@ is_named names r = list_any (λ n. nat_eq n.number r) names
 -- whether a number and a name are a pair for good, beside another such pair: both are the same, or neither
 abbrev pub agrees : ℕ → List ℕ → Name → Bool
 agrees r name n = if nat_eq n.number r then bytes_eq n.name name else not (bytes_eq n.name name)
+
+-- two names that were given are the same, or have nothing in common
+abbrev pub IsOnePair : Name → Name → Type 0
+IsOnePair n m = (n.number ≡ m.number) ↔ (n.name ≡ m.name)
 
 module _ (Routes : (plan to bytes : List ℕ) → Type 0) where
   -- A message is accepted for the receivers of its route under the plan in force, to which it conforms. Its number is above all

@@ -1,10 +1,10 @@
 //! What holds of the definitions.
 ghost use Rattle.std.specs.Prelude.{◌≡◌, ◌↔◌, ◌<◌, ◌++◌, List, ℕ, drop, length, IsTrue};
-ghost use Rattle.std.specs.List.{fold};
+ghost use Rattle.std.specs.List.{AllPairs, fold};
 ghost use mathlib.Core.List.{IsPrefix};
 ghost use Rattle.gw_due.specs.Events.{Event};
-ghost use Rattle.gw_due.specs.Due.{due, passed, plan_at};
-ghost use Rattle.gw_due.specs.Lawful.{Lawful, MayFollow};
+ghost use Rattle.gw_due.specs.Due.{due, names, passed, plan_at};
+ghost use Rattle.gw_due.specs.Lawful.{IsOnePair, Lawful, MayFollow};
 ghost use Rattle.gw_due.specs.Runs.{Covers, Runs};
 ghost use Rattle.gw_due.specs.State.{State, after, allows, state_of};
 ghost use Rattle.gw_due.specs.Checkpoint.{StateFits, checkpoint};
@@ -26,6 +26,11 @@ pub fn in_order<R: Rules>()
 pub fn only_grows()
     ensures due { (r : ℕ) (log more : List Event) → IsPrefix (due r log) (due r (log ++ more)) }
     ensures passed { (r : ℕ) (log more : List Event) → IsPrefix (passed r log) (passed r (log ++ more)) }
+{}
+
+/// A receiver's number has one name, and its name one number, for good.
+pub fn one_name<R: Rules>()
+    ensures { (log : List Event) → Lawful R.routes log → AllPairs IsOnePair (names log) }
 {}
 
 /// A place has one plan, for good.
