@@ -46,13 +46,13 @@ fn is_part_sure(named: Named<'_>) -> bool {
 
 /// A condition of a map, with the line that has it and what it reads.
 #[derive(Clone, Copy)]
-struct Asked<'a> {
+struct Asked<'a, 'c> {
     site: &'a Site,
     named: Named<'a>,
-    condition: &'a Condition,
+    condition: &'c Condition,
 }
 
-impl Asked<'_> {
+impl Asked<'_, '_> {
     /// Whether it is on a segment or group: then it asks the first repetition of the field.
     fn is_of_item(&self) -> bool {
         self.site.target.field == 0
@@ -142,7 +142,7 @@ impl Asked<'_> {
         say(errors, why);
     }
 
-    /// Reports what may not be meant by its values.
+    /// Reports what may not be meant by its values, or by the repetition that it asks.
     fn print_doubts<E: Write>(
         &self,
         alloc: Global,
@@ -151,6 +151,14 @@ impl Asked<'_> {
     ) -> Result<(), AllocError> {
         if !self.print_strange(path, errors) && names_all(alloc, self.named, self.condition)? {
             self.print_all(path, errors);
+        }
+        if self.is_of_item() && self.may_repeat() {
+            let field = self.named.part(0, 0);
+            self.print_line(path, errors);
+            let _ = writeln!(
+                errors,
+                "{field} may repeat, and this asks its first repetition"
+            );
         }
         Ok(())
     }
@@ -164,25 +172,17 @@ pub(crate) fn print_conditions<E: Write>(
     sites: &[Site],
     errors: &mut E,
 ) -> Result<(), AllocError> {
-    let path = written.path;
     let conditions = conditions_of(alloc, map.map().items())?;
     for site in sites {
-        if let Some(condition) = conditions.get(&site.line)
-            && let Some(named) = chosen_by(map.source(), site, condition)
-        {
-            let asked = Asked {
-                site,
-                named,
-                condition,
-            };
-            asked.print_doubts(alloc, path, errors)?;
-            if asked.is_of_item() && asked.may_repeat() {
-                let field = named.part(0, 0);
-                asked.print_line(path, errors);
-                let _ = writeln!(
-                    errors,
-                    "{field} may repeat, and this asks its first repetition"
-                );
+        if let Some(condition) = conditions.get(&site.line) {
+            let condition: &Condition = condition;
+            if let Some(named) = chosen_by(map.source(), site, condition) {
+                let asked = Asked {
+                    site,
+                    named,
+                    condition,
+                };
+                asked.print_doubts(alloc, written.path, errors)?;
             }
         }
     }

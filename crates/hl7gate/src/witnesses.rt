@@ -237,18 +237,24 @@ impl Shown {
 
     /// Says what no sample shows.
     fn conclude(&mut self, source: &Profile, target: &Profile) -> Result<(), AllocError> {
-        let (said, name): (&[u8], &[u8]) = if self.is_cut {
-            (FURTHER, b"")
-        } else if !self.has_tried {
-            (NO_SAMPLE, source.name())
-        } else if self.out.is_empty() {
-            (NO_BREACH, target.name())
-        } else {
-            return Ok(());
-        };
-        for part in [b"\n", said, name, b"\n"] {
-            self.out.extend_from_slice(part)?;
+        if self.is_cut {
+            return self.say(FURTHER, b"");
         }
+        if !self.has_tried {
+            return self.say(NO_SAMPLE, source.name());
+        }
+        if self.out.is_empty() {
+            return self.say(NO_BREACH, target.name());
+        }
+        Ok(())
+    }
+
+    /// Adds a sentence with the name at its end, behind an empty line.
+    fn say(&mut self, sentence: &[u8], name: &[u8]) -> Result<(), AllocError> {
+        self.out.push(b'\n')?;
+        self.out.extend_from_slice(sentence)?;
+        self.out.extend_from_slice(name)?;
+        self.out.push(b'\n')?;
         Ok(())
     }
 }
