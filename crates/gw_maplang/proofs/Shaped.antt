@@ -15,7 +15,7 @@ use Rattle.gw_maplang.specs.Among.{Distinct}
 use Rattle.gw_maplang.specs.Columns.{behind_first, is_table_word}
 use Rattle.gw_maplang.specs.Shapes.{Path, FieldPath, Ref, Field, Current, Leaf, Const, Copy, Lookup, Date, LeafValue, Condition, FieldCondition, Walk, Making, Copies, Firsts, Repeats, Builds}
 use Rattle.gw_maplang.specs.Lawful.{LawfulPath, LawfulField, LawfulFieldPath, LawfulPlace, LawfulDrop, is_date_length, last_label, places}
-use Rattle.gw_maplang.specs.Line.{Line, Begins, Language, Table, Rows, Else, Segment, Makes, At, Or, Each, End, Drops, is_slash, is_dash, path_of, field_of, field_path, sub_of, place_of, place_or_first, field_ref, ref_of, dropped_field, drop_of, constant, plain_word, plain_at, text_at, some_bytes, texts, most_columns, some_texts, all_texts, where_at, condition_form, condition_at, field_place, asked_at, field_condition_form, field_condition_at, walk_form, table_word, from_at, const_form, copy_form, lookup_form, date_length, date_from, date_form, leaf_of, leaf_form, own_leaves, map_form, language_form, table_form, row_form, else_form, source_behind, source_form, segment_form, made_from, chosen_from, copies_form, firsts_form, repeats_form, builds_form, at_form, or_form, each_form, group_form, drop_form, rule_form, keyword_form, form}
+use Rattle.gw_maplang.specs.Line.{Line, Begins, Language, Table, Rows, Else, Segment, Makes, At, Or, Each, End, Drops, is_slash, is_dash, path_of, field_of, field_path, sub_of, place_of, place_or_first, field_ref, ref_of, dropped_field, drop_of, constant, plain_word, plain_at, text_at, some_bytes, texts, most_columns, some_texts, values_form, where_at, condition_form, condition_at, field_place, asked_at, field_condition_form, field_condition_at, walk_form, table_word, from_at, const_form, copy_form, lookup_form, date_length, date_from, date_form, leaf_of, leaf_form, own_leaves, map_form, language_form, table_form, row_form, else_form, source_behind, source_form, segment_form, made_from, chosen_from, copies_form, firsts_form, repeats_form, builds_form, at_form, or_form, each_form, group_form, drop_form, rule_form, keyword_form, form}
 
 abbrev pub ShapedRef : Ref → Type 0
 ShapedRef (Field from place) = LawfulFieldPath from × LawfulPlace place
@@ -233,8 +233,7 @@ asked_at_is words =
 field_condition_form_is : (words : List Word) → IfSome (field_condition_form words) ShapedFieldCondition
 field_condition_form_is words =
     gives (λ p. FieldPlaceIs p.0) ShapedFieldCondition (asked_at words) _ (asked_at_is words)
-    (λ asked h. gives (λ _. Unit {0}) ShapedFieldCondition (behind (codes "is") asked.1) _ (any (behind (codes "is") asked.1))
-    (λ more u. gives (λ _. Unit {0}) ShapedFieldCondition (all_texts more) _ (any (all_texts more)) (λ values v. h)))
+    (λ asked h. gives (λ _. Unit {0}) ShapedFieldCondition (values_form asked.1) _ (any (values_form asked.1)) (λ values v. h))
 
 abbrev FieldConditionIs : Option FieldCondition → Type 0
 FieldConditionIs c = IfSome c ShapedFieldCondition
@@ -277,8 +276,7 @@ where_at_is words =
 condition_form_is : (words : List Word) → IfSome (condition_form words) ShapedCondition
 condition_form_is words =
     gives (λ p. LawfulPlace p.0) ShapedCondition (where_at words) _ (where_at_is words)
-    (λ place h. gives (λ _. Unit {0}) ShapedCondition (behind (codes "is") place.1) _ (any (behind (codes "is") place.1))
-    (λ more u. gives (λ _. Unit {0}) ShapedCondition (all_texts more) _ (any (all_texts more)) (λ values v. h)))
+    (λ place h. gives (λ _. Unit {0}) ShapedCondition (values_form place.1) _ (any (values_form place.1)) (λ values v. h))
 
 abbrev ConditionIs : Option Condition → Type 0
 ConditionIs c = IfSome c ShapedCondition

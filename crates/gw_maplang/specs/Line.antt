@@ -1,6 +1,6 @@
 -- The lines of a map, and the words of each.
-use Rattle.std.specs.Prelude.{ℕ, Bool, ◌==◌, nat_le, if◌then◌else◌, List, [], ◌∷◌, length, Option, Some, None, codes}
-use Rattle.std.specs.List.{list_all, slice_split, before_first}
+use Rattle.std.specs.Prelude.{ℕ, Bool, ◌||◌, ◌==◌, nat_le, if◌then◌else◌, List, [], ◌∷◌, length, Option, Some, None, codes}
+use Rattle.std.specs.List.{list_all, list_any, slice_split, before_first}
 use Rattle.std.specs.Option.{option_map}
 use Rattle.gw_lines.specs.Words.{Word}
 use Rattle.gw_lines.specs.Spelled.{plain_bytes, is_keyword, is_name, is_dot, number}
@@ -147,10 +147,25 @@ abbrev pub some_texts : List Word → Option (List (List ℕ))
 some_texts [] = None
 some_texts (w ∷ more) = few_texts (w ∷ more)
 
--- VALUE ..: one at least
-abbrev pub all_texts : List Word → Option (List (List ℕ))
-all_texts [] = None
-all_texts (w ∷ more) = texts (w ∷ more)
+-- the words of a condition, which are values of one only in quotation marks
+abbrev pub is_kept : Word → Bool
+is_kept w =
+    is_keyword (codes "is") w || is_keyword (codes "not") w || is_keyword (codes "and") w || is_keyword (codes "or") w || is_keyword (codes "where") w
+    || is_keyword (codes "some") w || is_keyword (codes "no") w || is_keyword (codes "present") w || is_keyword (codes "absent") w
+
+abbrev pub free_texts : List Word → Option (List (List ℕ))
+free_texts words = if list_any is_kept words then None else texts words
+
+-- VALUE ..: one at least, none of them a kept word
+abbrev pub chosen_texts : List Word → Option (List (List ℕ))
+chosen_texts [] = None
+chosen_texts (w ∷ more) = free_texts (w ∷ more)
+
+-- is VALUE ..
+abbrev pub values_form : List Word → Option (List (List ℕ))
+values_form words = do
+  more ← behind (codes "is") words
+  chosen_texts more
 
 -- TABLE or TABLE.K
 abbrev pub table_word : List ℕ → Option (List ℕ)
@@ -172,8 +187,7 @@ where_at words = do
 abbrev pub condition_form : List Word → Option Condition
 condition_form words = do
   place ← where_at words
-  more ← behind (codes "is") place.1
-  values ← all_texts more
+  values ← values_form place.1
   Some (record { place = place.0; values = values })
 
 -- the same, or nothing
@@ -191,8 +205,7 @@ asked_at words = do
 abbrev pub field_condition_form : List Word → Option FieldCondition
 field_condition_form words = do
   asked ← asked_at words
-  more ← behind (codes "is") asked.1
-  values ← all_texts more
+  values ← values_form asked.1
   Some (record { from = asked.0.0; condition = record { place = asked.0.1; values = values } })
 
 -- the same, or nothing

@@ -1,25 +1,24 @@
 //! The line patterns of a map.
 ghost use Rattle.std.specs.Prelude.{◌≡◌, map, IfOk, Some, None};
+ghost use Rattle.std.specs.List.{list_any};
 ghost use Rattle.std.specs.Option.{option_map};
 ghost use Rattle.gw_lines.specs.Seen.{word};
 ghost use Rattle.gw_lines.specs.Parts.{with_all};
 ghost use Rattle.gw_lines.specs.Values.{bytes_of};
 ghost use Rattle.gw_maplang.specs.Line as spec;
-ghost use Rattle.gw_maplang.specs.Seen.{line, now, now_all, path, field_path, ref, leaf, alternative, leaf_value, dropped};
+ghost use Rattle.gw_maplang.specs.Seen.{line, now, now_all, path, path_some, field_path, ref, leaf, alternative, leaf_value, dropped};
 ghost use Rattle.gw_maplang.specs.Seen.{condition, condition_some, field_condition, field_condition_some, walk, walk_some};
 
 use crate::parts::{
-    copies, drop_of, field_path, field_place, is_table_word, path_of, place_of, ref_of,
+    constant, copies, drop_at, field_place_at, from_at, path_at, place_at, plain_word, ref_at,
+    some_texts, table_at, text_at, texts,
 };
 use crate::rule::{
     Alternative, BuildRule, Condition, CopyRule, Dropped, FieldCondition, FieldPath, FirstRule,
-    Leaf, LeafPlace, LeafRule, Ref, RepeatRule, Rule, Walk,
+    Leaf, LeafPlace, LeafRule, RepeatRule, Rule, Walk,
 };
-use gw_lines::{Word, behind, bytes_of, first_word, name_at, number, number_at};
+use gw_lines::{Word, behind, bytes_of, name_at, number, number_at};
 use std::alloc::{AllocError, Global};
-
-// The greatest number of a table's columns.
-const MAX_COLUMNS: usize = 9;
 
 /// A line of a map. A rule has only the leaf of its own line, and a leaf no others. An `each` line without a label is a `flat`.
 #[derive(Drop)]
@@ -38,171 +37,43 @@ pub(crate) enum Line<'a> {
     Drops(Dropped),
 }
 
-fn plain_word<'a, 'w>(words: &'w [Word<'a>]) -> Option<(&'a [u8], &'w [Word<'a>])>
-    ensures { option_map (λ w. (w.0.now, map word w.1.now)) result ≡ spec.plain_word (map word words.now) }
+/// Whether this is one of the words of conditions without quotation marks, which is no value of one. It takes no memory.
+pub fn is_kept(next: Word<'_>) -> bool
+    ensures { result ≡ spec.is_kept (word next.entry) }
 {
-    let (first, more) = first_word(words)?;
-    let bytes = first.plain()?;
-    Some((bytes, more))
+    next.is(b"is")
+        || next.is(b"not")
+        || next.is(b"and")
+        || next.is(b"or")
+        || next.is(b"where")
+        || next.is(b"some")
+        || next.is(b"no")
+        || next.is(b"present")
+        || next.is(b"absent")
 }
 
-fn path_at<'a, 'w>(
-    alloc: Global,
-    words: &'w [Word<'a>],
-) -> Result<Option<(Vec<Vec<u8>>, &'w [Word<'a>])>, AllocError>
-    ensures { IfOk result (λ found. option_map (λ w. (path w.0, map word w.1.now)) found ≡ spec.plain_at spec.path_of (map word words.now)) }
+fn has_kept(words: &[Word]) -> bool
+    ensures { result ≡ list_any spec.is_kept (map word words.now) }
 {
-    let Some((bytes, more)) = plain_word(words) else {
-        return Ok(None);
-    };
-    match path_of(alloc, bytes)? {
-        None => Ok(None),
-        Some(path) => Ok(Some((path, more))),
-    }
-}
-
-fn field_at<'a, 'w>(
-    alloc: Global,
-    words: &'w [Word<'a>],
-) -> Result<Option<(FieldPath, &'w [Word<'a>])>, AllocError>
-    ensures { IfOk result (λ found. option_map (λ w. (field_path w.0, map word w.1.now)) found ≡ spec.plain_at spec.field_path (map word words.now)) }
-{
-    let Some((bytes, more)) = plain_word(words) else {
-        return Ok(None);
-    };
-    match field_path(alloc, bytes)? {
-        None => Ok(None),
-        Some(from) => Ok(Some((from, more))),
-    }
-}
-
-fn ref_at<'a, 'w>(
-    alloc: Global,
-    words: &'w [Word<'a>],
-) -> Result<Option<(Ref, &'w [Word<'a>])>, AllocError>
-    ensures { IfOk result (λ found. option_map (λ w. (ref w.0, map word w.1.now)) found ≡ spec.plain_at spec.ref_of (map word words.now)) }
-{
-    let Some((bytes, more)) = plain_word(words) else {
-        return Ok(None);
-    };
-    match ref_of(alloc, bytes)? {
-        None => Ok(None),
-        Some(from) => Ok(Some((from, more))),
-    }
-}
-
-fn drop_at<'a, 'w>(
-    alloc: Global,
-    at: u32,
-    words: &'w [Word<'a>],
-) -> Result<Option<(Dropped, &'w [Word<'a>])>, AllocError>
-    ensures { IfOk result (λ found. option_map (λ w. (dropped w.0, map word w.1.now)) found ≡ spec.plain_at (spec.drop_of at) (map word words.now)) }
-{
-    let Some((bytes, more)) = plain_word(words) else {
-        return Ok(None);
-    };
-    match drop_of(alloc, at, bytes)? {
-        None => Ok(None),
-        Some(left) => Ok(Some((left, more))),
-    }
-}
-
-fn place_at<'a, 'w>(words: &'w [Word<'a>]) -> Option<(LeafPlace, &'w [Word<'a>])>
-    ensures { option_map (λ w. (w.0, map word w.1.now)) result ≡ spec.plain_at spec.place_of (map word words.now) }
-{
-    let (bytes, more) = plain_word(words)?;
-    let place = place_of(bytes)?;
-    Some((place, more))
-}
-
-fn some_bytes(bytes: &[u8]) -> Option<&[u8]>
-    ensures { now result ≡ spec.some_bytes bytes.now }
-{
-    match bytes {
-        [] => None,
-        [_, ..] => Some(bytes),
-    }
-}
-
-fn constant(bytes: &[u8]) -> &[u8]
-    ensures { result.now ≡ spec.constant bytes.now }
-{
-    match bytes {
-        [] => b"\"\"",
-        [_, ..] => bytes,
-    }
-}
-
-fn text_at<'a, 'w>(words: &'w [Word<'a>]) -> Option<(&'a [u8], &'w [Word<'a>])>
-    ensures { option_map (λ w. (w.0.now, map word w.1.now)) result ≡ spec.text_at (map word words.now) }
-{
-    let (first, more) = first_word(words)?;
-    let bytes = some_bytes(bytes_of(first))?;
-    Some((bytes, more))
-}
-
-// The text of a word, if it has a byte.
-fn text_of(next: Word<'_>) -> Option<&[u8]>
-    ensures { now result ≡ spec.some_bytes (bytes_of (word next.entry)) }
-{
-    some_bytes(bytes_of(next))
-}
-
-// The texts of these words, if each has a byte.
-fn texts<'a>(alloc: Global, words: &[Word<'a>]) -> Result<Option<Vec<&'a [u8]>>, AllocError>
-    ensures { IfOk result (λ found. option_map (λ v. now_all v.items) found ≡ spec.texts (map word words.now)) }
-{
-    let mut all = Vec::new(alloc);
     for next in words {
-        let Some(text) = text_of(*next) else {
-            return Ok(None);
-        };
-        all.push(text)?;
+        if is_kept(*next) {
+            return true;
+        }
     }
-    Ok(Some(all))
+    false
 }
 
-// The same of at least one word, and of no more than a table has columns.
-fn some_texts<'a>(alloc: Global, words: &[Word<'a>]) -> Result<Option<Vec<&'a [u8]>>, AllocError>
-    ensures { IfOk result (λ found. option_map (λ v. now_all v.items) found ≡ spec.some_texts (map word words.now)) }
+// The texts of at least one word, if none is kept.
+fn chosen_texts<'a>(
+    alloc: Global,
+    words: &[Word<'a>],
+) -> Result<Option<Vec<&'a [u8]>>, AllocError>
+    ensures { IfOk result (λ found. option_map (λ v. now_all v.items) found ≡ spec.chosen_texts (map word words.now)) }
 {
-    if words.is_empty() || words.len() > MAX_COLUMNS {
+    if words.is_empty() || has_kept(words) {
         return Ok(None);
     }
     texts(alloc, words)
-}
-
-// The same of at least one word.
-fn all_texts<'a>(alloc: Global, words: &[Word<'a>]) -> Result<Option<Vec<&'a [u8]>>, AllocError>
-    ensures { IfOk result (λ found. option_map (λ v. now_all v.items) found ≡ spec.all_texts (map word words.now)) }
-{
-    match words {
-        [] => Ok(None),
-        [_, ..] => texts(alloc, words),
-    }
-}
-
-// The name of a table, or of a column of one.
-fn table_at<'a, 'w>(words: &'w [Word<'a>]) -> Option<(&'a [u8], &'w [Word<'a>])>
-    ensures { option_map (λ w. (w.0.now, map word w.1.now)) result ≡ spec.plain_at spec.table_word (map word words.now) }
-{
-    let (bytes, more) = plain_word(words)?;
-    if is_table_word(bytes) {
-        return Some((bytes, more));
-    }
-    None
-}
-
-fn from_at<'a, 'w>(
-    alloc: Global,
-    words: &'w [Word<'a>],
-) -> Result<Option<(FieldPath, &'w [Word<'a>])>, AllocError>
-    ensures { IfOk result (λ found. option_map (λ w. (field_path w.0, map word w.1.now)) found ≡ spec.from_at (map word words.now)) }
-{
-    match behind(b"from", words) {
-        None => Ok(None),
-        Some(more) => field_at(alloc, more),
-    }
 }
 
 // The place that a condition asks for, and what stands behind it.
@@ -213,20 +84,29 @@ fn where_at<'a, 'w>(words: &'w [Word<'a>]) -> Option<(LeafPlace, &'w [Word<'a>])
     place_at(more)
 }
 
+// The values that a condition asks for.
+fn values_form(alloc: Global, words: &[Word]) -> Result<Option<Vec<Vec<u8>>>, AllocError>
+    ensures { IfOk result (λ found. path_some found ≡ spec.values_form (map word words.now)) }
+{
+    let Some(more) = behind(b"is", words) else {
+        return Ok(None);
+    };
+    match chosen_texts(alloc, more)? {
+        None => Ok(None),
+        Some(values) => Ok(Some(copies(alloc, &values)?)),
+    }
+}
+
 fn condition_form(alloc: Global, words: &[Word]) -> Result<Option<Condition>, AllocError>
     ensures { IfOk result (λ found. option_map condition found ≡ spec.condition_form (map word words.now)) }
 {
     let Some((place, more)) = where_at(words) else {
         return Ok(None);
     };
-    let Some(more) = behind(b"is", more) else {
-        return Ok(None);
-    };
-    let Some(values) = all_texts(alloc, more)? else {
-        return Ok(None);
-    };
-    let values = copies(alloc, &values)?;
-    Ok(Some(Condition { place, values }))
+    match values_form(alloc, more)? {
+        None => Ok(None),
+        Some(values) => Ok(Some(Condition { place, values })),
+    }
 }
 
 // The condition that these words are, none if there is no word.
@@ -239,21 +119,6 @@ fn condition_at(alloc: Global, words: &[Word]) -> Result<Option<Option<Condition
     match condition_form(alloc, words)? {
         None => Ok(None),
         Some(chosen) => Ok(Some(Some(chosen))),
-    }
-}
-
-fn field_place_at<'a, 'w>(
-    alloc: Global,
-    words: &'w [Word<'a>],
-) -> Result<Option<((FieldPath, LeafPlace), &'w [Word<'a>])>, AllocError>
-    ensures { IfOk result (λ found. option_map (λ w. ((field_path w.0.0, w.0.1), map word w.1.now)) found ≡ spec.plain_at spec.field_place (map word words.now)) }
-{
-    let Some((bytes, more)) = plain_word(words) else {
-        return Ok(None);
-    };
-    match field_place(alloc, bytes)? {
-        None => Ok(None),
-        Some(asked) => Ok(Some((asked, more))),
     }
 }
 
@@ -276,15 +141,13 @@ fn field_condition_form(alloc: Global, words: &[Word]) -> Result<Option<FieldCon
     let Some(((from, place), more)) = asked_at(alloc, words)? else {
         return Ok(None);
     };
-    let Some(more) = behind(b"is", more) else {
-        return Ok(None);
-    };
-    let Some(values) = all_texts(alloc, more)? else {
-        return Ok(None);
-    };
-    let values = copies(alloc, &values)?;
-    let condition = Condition { place, values };
-    Ok(Some(FieldCondition { from, condition }))
+    match values_form(alloc, more)? {
+        None => Ok(None),
+        Some(values) => Ok(Some(FieldCondition {
+            from,
+            condition: Condition { place, values },
+        })),
+    }
 }
 
 // The condition on occurrences that these words are, none if there is no word.

@@ -18,6 +18,7 @@ mod text;
 mod whole;
 
 pub use fault::MapFault;
+pub use form::is_kept;
 pub use item::{AlwaysItem, FlatItem, FromItem, GroupItem, Item};
 pub use itself::identity;
 pub use map::Map;

@@ -1,17 +1,22 @@
-//! Parts of a word: paths, fields and places.
+//! Parts of a word: paths, fields and places. Then parts of a line, each with the words behind it.
 ghost use Rattle.std.specs.Prelude.{◌≡◌, ◌≤◌, ◌==◌, map, IfOk};
 ghost use Rattle.std.specs.List.{list_all, slice_split, before_first, position};
 ghost use Rattle.std.specs.Option.{option_map};
+ghost use Rattle.gw_lines.specs.Seen.{word};
 ghost use Rattle.gw_lines.specs.Spelled.{is_name};
+ghost use Rattle.gw_lines.specs.Values.{bytes_of};
 ghost use Rattle.gw_maplang.specs.Lawful as lawful;
 ghost use Rattle.gw_maplang.specs.Line as spec;
 ghost use Rattle.gw_maplang.specs.Columns as columns;
 ghost use Rattle.gw_maplang.specs.Shapes as shapes;
-ghost use Rattle.gw_maplang.specs.Seen.{now, now_all, items_all, path, path_some, field_path, ref_some, dropped};
+ghost use Rattle.gw_maplang.specs.Seen.{now, now_all, items_all, path, path_some, field_path, ref, ref_some, dropped};
 
 use crate::rule::{Dropped, FieldPath, LeafPlace, Ref};
-use gw_lines::{is_name, number};
+use gw_lines::{Word, behind, bytes_of, first_word, is_name, number};
 use std::alloc::{AllocError, Global};
+
+// The greatest number of a table's columns.
+const MAX_COLUMNS: usize = 9;
 
 fn first_at(end: u8, bytes: &[u8]) -> Option<usize>
     ensures { result ≡ position (λ b. b == end) bytes.now }
@@ -19,7 +24,7 @@ fn first_at(end: u8, bytes: &[u8]) -> Option<usize>
     bytes.iter().position(|byte| *byte == end)
 }
 
-// The bytes before the first such byte; all if there is none.
+/// The bytes before the first such byte; all if there is none.
 pub(crate) fn before_first_byte(end: u8, bytes: &[u8]) -> &[u8]
     ensures { result.now ≡ before_first (λ b. b == end) bytes.now }
 {
@@ -29,7 +34,7 @@ pub(crate) fn before_first_byte(end: u8, bytes: &[u8]) -> &[u8]
     }
 }
 
-// The bytes after the first such byte, if there is one.
+/// The bytes after the first such byte, if there is one.
 pub(crate) fn after_first_byte(end: u8, bytes: &[u8]) -> Option<&[u8]>
     ensures { now result ≡ columns.behind_first (λ b. b == end) bytes.now }
 {
@@ -100,8 +105,8 @@ pub(crate) fn is_table_word(bytes: &[u8]) -> bool
     is_name(before_first_byte(b'.', bytes)) && is_numbered(after_first_byte(b'.', bytes))
 }
 
-/// A path: labels joined by slashes.
-pub(crate) fn path_of(alloc: Global, bytes: &[u8]) -> Result<Option<Vec<Vec<u8>>>, AllocError>
+// A path: labels joined by slashes.
+fn path_of(alloc: Global, bytes: &[u8]) -> Result<Option<Vec<Vec<u8>>>, AllocError>
     ensures { IfOk result (λ p. path_some p ≡ spec.path_of bytes.now) }
 {
     let labels = cut_labels(alloc, bytes)?;
@@ -142,8 +147,8 @@ fn field_of(path: &[Vec<u8>], bytes: &[u8]) -> Option<u32>
     number(least_field(last_label(path)), 999, bytes)
 }
 
-/// A field, by the path to its segment.
-pub(crate) fn field_path(alloc: Global, bytes: &[u8]) -> Result<Option<FieldPath>, AllocError>
+// A field, by the path to its segment.
+fn field_path(alloc: Global, bytes: &[u8]) -> Result<Option<FieldPath>, AllocError>
     ensures { IfOk result (λ f. option_map field_path f ≡ spec.field_path bytes.now) }
 {
     let Some(path) = path_of(alloc, before_first_byte(b'-', bytes))? else {
@@ -167,8 +172,8 @@ fn sub_of(said: Option<&[u8]>) -> Option<u32>
     }
 }
 
-/// A component, and a subcomponent; subcomponent 1 if none is given.
-pub(crate) fn place_of(bytes: &[u8]) -> Option<LeafPlace>
+// A component, and a subcomponent; subcomponent 1 if none is given.
+fn place_of(bytes: &[u8]) -> Option<LeafPlace>
     ensures { result ≡ spec.place_of bytes.now }
 {
     let comp = number(1, 99, before_first_byte(b'.', bytes))?;
@@ -185,8 +190,8 @@ fn place_or_first(said: Option<&[u8]>) -> Option<LeafPlace>
     }
 }
 
-/// A field, and a place in it; the first place if none is given.
-pub(crate) fn field_place(
+// A field, and a place in it; the first place if none is given.
+fn field_place(
     alloc: Global,
     bytes: &[u8],
 ) -> Result<Option<(FieldPath, LeafPlace)>, AllocError>
@@ -219,8 +224,8 @@ fn current(place: Option<LeafPlace>) -> Option<Ref>
     }
 }
 
-/// The source of a text.
-pub(crate) fn ref_of(alloc: Global, bytes: &[u8]) -> Result<Option<Ref>, AllocError>
+// The source of a text.
+fn ref_of(alloc: Global, bytes: &[u8]) -> Result<Option<Ref>, AllocError>
     ensures { IfOk result (λ r. ref_some r ≡ spec.ref_of bytes.now) }
 {
     match bytes {
@@ -246,8 +251,8 @@ fn dropped_field(path: &[Vec<u8>], said: Option<&[u8]>) -> Option<Option<u32>>
     }
 }
 
-/// What a `drop` line leaves out.
-pub(crate) fn drop_of(alloc: Global, line: u32, bytes: &[u8]) -> Result<Option<Dropped>, AllocError>
+// What a `drop` line leaves out.
+fn drop_of(alloc: Global, line: u32, bytes: &[u8]) -> Result<Option<Dropped>, AllocError>
     ensures { IfOk result (λ d. option_map dropped d ≡ spec.drop_of line bytes.now) }
 {
     let Some(path) = path_of(alloc, before_first_byte(b'-', bytes))? else {
@@ -257,4 +262,176 @@ pub(crate) fn drop_of(alloc: Global, line: u32, bytes: &[u8]) -> Result<Option<D
         return Ok(None);
     };
     Ok(Some(Dropped { line, path, field }))
+}
+
+pub(crate) fn plain_word<'a, 'w>(words: &'w [Word<'a>]) -> Option<(&'a [u8], &'w [Word<'a>])>
+    ensures { option_map (λ w. (w.0.now, map word w.1.now)) result ≡ spec.plain_word (map word words.now) }
+{
+    let (first, more) = first_word(words)?;
+    let bytes = first.plain()?;
+    Some((bytes, more))
+}
+
+pub(crate) fn path_at<'a, 'w>(
+    alloc: Global,
+    words: &'w [Word<'a>],
+) -> Result<Option<(Vec<Vec<u8>>, &'w [Word<'a>])>, AllocError>
+    ensures { IfOk result (λ found. option_map (λ w. (path w.0, map word w.1.now)) found ≡ spec.plain_at spec.path_of (map word words.now)) }
+{
+    let Some((bytes, more)) = plain_word(words) else {
+        return Ok(None);
+    };
+    match path_of(alloc, bytes)? {
+        None => Ok(None),
+        Some(path) => Ok(Some((path, more))),
+    }
+}
+
+fn field_at<'a, 'w>(
+    alloc: Global,
+    words: &'w [Word<'a>],
+) -> Result<Option<(FieldPath, &'w [Word<'a>])>, AllocError>
+    ensures { IfOk result (λ found. option_map (λ w. (field_path w.0, map word w.1.now)) found ≡ spec.plain_at spec.field_path (map word words.now)) }
+{
+    let Some((bytes, more)) = plain_word(words) else {
+        return Ok(None);
+    };
+    match field_path(alloc, bytes)? {
+        None => Ok(None),
+        Some(from) => Ok(Some((from, more))),
+    }
+}
+
+pub(crate) fn ref_at<'a, 'w>(
+    alloc: Global,
+    words: &'w [Word<'a>],
+) -> Result<Option<(Ref, &'w [Word<'a>])>, AllocError>
+    ensures { IfOk result (λ found. option_map (λ w. (ref w.0, map word w.1.now)) found ≡ spec.plain_at spec.ref_of (map word words.now)) }
+{
+    let Some((bytes, more)) = plain_word(words) else {
+        return Ok(None);
+    };
+    match ref_of(alloc, bytes)? {
+        None => Ok(None),
+        Some(from) => Ok(Some((from, more))),
+    }
+}
+
+pub(crate) fn drop_at<'a, 'w>(
+    alloc: Global,
+    at: u32,
+    words: &'w [Word<'a>],
+) -> Result<Option<(Dropped, &'w [Word<'a>])>, AllocError>
+    ensures { IfOk result (λ found. option_map (λ w. (dropped w.0, map word w.1.now)) found ≡ spec.plain_at (spec.drop_of at) (map word words.now)) }
+{
+    let Some((bytes, more)) = plain_word(words) else {
+        return Ok(None);
+    };
+    match drop_of(alloc, at, bytes)? {
+        None => Ok(None),
+        Some(left) => Ok(Some((left, more))),
+    }
+}
+
+pub(crate) fn place_at<'a, 'w>(words: &'w [Word<'a>]) -> Option<(LeafPlace, &'w [Word<'a>])>
+    ensures { option_map (λ w. (w.0, map word w.1.now)) result ≡ spec.plain_at spec.place_of (map word words.now) }
+{
+    let (bytes, more) = plain_word(words)?;
+    let place = place_of(bytes)?;
+    Some((place, more))
+}
+
+fn some_bytes(bytes: &[u8]) -> Option<&[u8]>
+    ensures { now result ≡ spec.some_bytes bytes.now }
+{
+    match bytes {
+        [] => None,
+        [_, ..] => Some(bytes),
+    }
+}
+
+pub(crate) fn constant(bytes: &[u8]) -> &[u8]
+    ensures { result.now ≡ spec.constant bytes.now }
+{
+    match bytes {
+        [] => b"\"\"",
+        [_, ..] => bytes,
+    }
+}
+
+pub(crate) fn text_at<'a, 'w>(words: &'w [Word<'a>]) -> Option<(&'a [u8], &'w [Word<'a>])>
+    ensures { option_map (λ w. (w.0.now, map word w.1.now)) result ≡ spec.text_at (map word words.now) }
+{
+    let (first, more) = first_word(words)?;
+    let bytes = some_bytes(bytes_of(first))?;
+    Some((bytes, more))
+}
+
+// The text of a word, if it has a byte.
+fn text_of(next: Word<'_>) -> Option<&[u8]>
+    ensures { now result ≡ spec.some_bytes (bytes_of (word next.entry)) }
+{
+    some_bytes(bytes_of(next))
+}
+
+/// The texts of these words, if each has a byte.
+pub(crate) fn texts<'a>(alloc: Global, words: &[Word<'a>]) -> Result<Option<Vec<&'a [u8]>>, AllocError>
+    ensures { IfOk result (λ found. option_map (λ v. now_all v.items) found ≡ spec.texts (map word words.now)) }
+{
+    let mut all = Vec::new(alloc);
+    for next in words {
+        let Some(text) = text_of(*next) else {
+            return Ok(None);
+        };
+        all.push(text)?;
+    }
+    Ok(Some(all))
+}
+
+/// The same of at least one word, and of no more than a table has columns.
+pub(crate) fn some_texts<'a>(alloc: Global, words: &[Word<'a>]) -> Result<Option<Vec<&'a [u8]>>, AllocError>
+    ensures { IfOk result (λ found. option_map (λ v. now_all v.items) found ≡ spec.some_texts (map word words.now)) }
+{
+    if words.is_empty() || words.len() > MAX_COLUMNS {
+        return Ok(None);
+    }
+    texts(alloc, words)
+}
+
+/// The name of a table, or of a column of one.
+pub(crate) fn table_at<'a, 'w>(words: &'w [Word<'a>]) -> Option<(&'a [u8], &'w [Word<'a>])>
+    ensures { option_map (λ w. (w.0.now, map word w.1.now)) result ≡ spec.plain_at spec.table_word (map word words.now) }
+{
+    let (bytes, more) = plain_word(words)?;
+    if is_table_word(bytes) {
+        return Some((bytes, more));
+    }
+    None
+}
+
+pub(crate) fn field_place_at<'a, 'w>(
+    alloc: Global,
+    words: &'w [Word<'a>],
+) -> Result<Option<((FieldPath, LeafPlace), &'w [Word<'a>])>, AllocError>
+    ensures { IfOk result (λ found. option_map (λ w. ((field_path w.0.0, w.0.1), map word w.1.now)) found ≡ spec.plain_at spec.field_place (map word words.now)) }
+{
+    let Some((bytes, more)) = plain_word(words) else {
+        return Ok(None);
+    };
+    match field_place(alloc, bytes)? {
+        None => Ok(None),
+        Some(asked) => Ok(Some((asked, more))),
+    }
+}
+
+pub(crate) fn from_at<'a, 'w>(
+    alloc: Global,
+    words: &'w [Word<'a>],
+) -> Result<Option<(FieldPath, &'w [Word<'a>])>, AllocError>
+    ensures { IfOk result (λ found. option_map (λ w. (field_path w.0, map word w.1.now)) found ≡ spec.from_at (map word words.now)) }
+{
+    match behind(b"from", words) {
+        None => Ok(None),
+        Some(more) => field_at(alloc, more),
+    }
 }

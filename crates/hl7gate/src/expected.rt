@@ -3,8 +3,8 @@ use crate::above::{
     begin_above, closed_above, depth_of, open_above, said_above, word_at, words_in,
 };
 use crate::advice::{advice, behind, line_at};
-use gw_lines::{Expected, keyword_of};
-use gw_maplang::MapFault;
+use gw_lines::{Expected, Word, bytes_of, keyword_of};
+use gw_maplang::{MapFault, is_kept};
 use gw_plan::PlanFault;
 use gw_profile::ProfileFault;
 use std::alloc::{AllocError, Global};
@@ -77,6 +77,39 @@ fn of_line(
     }
 }
 
+/// The condition in a pattern, without its `where`, if the pattern has one.
+fn condition_in(pattern: &[u8]) -> Option<&str> {
+    let (_, behind) = str::from_utf8(pattern).ok()?.split_once("[where ")?;
+    let (asked, _) = behind.split_once(" ..]")?;
+    Some(asked)
+}
+
+/// The first value of a condition that has to stand in quotation marks and doesn't.
+fn kept_in<'t>(words: &[Word<'t>]) -> Option<&'t [u8]> {
+    let asked = words.iter().position(|word| word.is(b"where"))?;
+    if !words.get(asked + 2)?.is(b"is") {
+        return None;
+    }
+    let values = words.get(asked + 3..)?;
+    let kept = values.iter().find(|word| is_kept(**word))?;
+    Some(bytes_of(*kept))
+}
+
+/// What is printed of a line that is no line of a map: which value of its condition has to stand in quotation marks, or what is printed of any line.
+fn of_map_line(alloc: Global, text: &[u8], line: u32) -> Result<String, AllocError> {
+    let expected = gw_maplang::expected(alloc, text, line)?;
+    let words = words_in(alloc, expected.found)?;
+    let (Some(asked), Some(kept)) = (condition_in(expected.pattern), kept_in(&words)) else {
+        return of_line(alloc, text, line, expected);
+    };
+    let found = expected_of(alloc, b"", expected.found)?;
+    let found = found.strip_prefix("expected: ").unwrap_or("");
+    format!(in alloc;
+        "expected: {asked} .., a value \"{}\" is written in quotation marks{found}",
+        kept.escape_ascii()
+    )
+}
+
 /// What is reported of a profile that is refused.
 pub(crate) fn in_profile(
     alloc: Global,
@@ -104,10 +137,7 @@ pub(crate) fn in_profile(
 pub(crate) fn in_map(alloc: Global, text: &[u8], fault: MapFault) -> Result<Detail, AllocError> {
     let (line, said) = match fault {
         MapFault::Memory => return Err(AllocError),
-        MapFault::Syntax(line) => {
-            let expected = gw_maplang::expected(alloc, text, line)?;
-            (line, of_line(alloc, text, line, expected)?)
-        }
+        MapFault::Syntax(line) => (line, of_map_line(alloc, text, line)?),
         MapFault::Duplicate(line) => (line, of_duplicate(alloc, text, line)?),
         MapFault::UnknownTable(line) => return Ok(Detail::Line(line)),
         MapFault::BadConstant(line) => return Ok(Detail::Line(line)),

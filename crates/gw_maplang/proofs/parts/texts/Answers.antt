@@ -1,6 +1,6 @@
 use Rattle.std.proofs.lemmas.Result.{IfOk-from_err}
 use Rattle.gw_maplang.proofs.Words.{one_text, no_text, all_texts}
-use Rattle.gw_maplang.proofs.form.texts.Goals as goal
+use Rattle.gw_maplang.proofs.parts.texts.Goals as goal
 
 pub returns-in_err-push : goal.returns-in_err-push
 returns-in_err-push c = IfOk-from_err _ _ c.from_residual.ensures.0

@@ -2,7 +2,7 @@ use Rattle.std.proofs.Common.{◌≡◌, ◌++◌, drop, map}
 use Rattle.std.specs.Option.{option_map}
 use Rattle.gw_lines.specs.Seen.{word}
 use Rattle.gw_maplang.specs.Line.{texts}
-use Rattle.gw_maplang.proofs.form.texts.Given as goal
+use Rattle.gw_maplang.proofs.parts.texts.Given as goal
 
 abbrev pub invariant-loop-next : goal.invariant-loop-next
 invariant-loop-next l =
