@@ -174,7 +174,7 @@ fn is_bad_condition(asked: Option<&Condition>) -> bool
 {
     match asked {
         None => false,
-        Some(condition) => !are_all_values(&condition.values),
+        Some(condition) => !are_all_values(condition.values.values()),
     }
 }
 
