@@ -312,10 +312,11 @@ impl<'a, E: Write> Telling<'a, '_, E> {
         };
         match &site.origin {
             Origin::Dated(digits, _) => {
-                let _ = write!(
-                    self.errors,
-                    ", of which the map takes the first {digits} digits"
-                );
+                say(self.errors, b", of which the map takes the first ");
+                if digits.least < digits.most {
+                    let _ = write!(self.errors, "{} to ", digits.least);
+                }
+                let _ = write!(self.errors, "{} digits", digits.most);
             }
             Origin::LookedUp(name, _) => {
                 let _ = write!(self.errors, ", looked up in {}", name.escape_ascii());
