@@ -216,11 +216,12 @@ fn print_date<E: Write>(path: &str, source: &Profile, last: Option<&Site>, error
         return;
     };
     let named = Named::whole(source, &from.at, from.field).part(from.comp, from.sub);
-    if !are_dates(named, *digits) {
+    let least = digits.least;
+    if !are_dates(named, least) {
         let line = site.line;
         let _ = writeln!(
             errors,
-            "{path}:{line}: hint: gives nothing where {named} has fewer than {digits} digits"
+            "{path}:{line}: hint: gives nothing where {named} has fewer than {least} digits"
         );
     }
 }
