@@ -114,4 +114,4 @@ least_message tables (segment s rest) headed lawful =
     (least_follows tables rest lawful.1 headed.1 (one_of s ∷ []) (header_message tables s lawful.0 headed.0))
 
 pub each_has_one : (p : ProfileValue) → WellFormed p → (m : List SegmentValue) × IsMessage m × Conforms p m
-each_has_one p wf = (least p.nodes, (least_message (table_names p.tables) p.nodes wf.headed wf.segments, least_conforms p wf))
+each_has_one p wf = (least p.nodes, least_message (table_names p.tables) p.nodes wf.headed wf.segments, least_conforms p wf)
