@@ -39,9 +39,6 @@ const ENDING: u64 = 1;
 
 const OVER: u64 = 2;
 
-/// How many entries of a journal the messages of a round may take. The others are for swaps, and for jobs that are issued again.
-const ROOM: u64 = 200_000;
-
 /// How many milliseconds pass at most until the end of the gateway is seen.
 const LOOK: u64 = 100;
 
@@ -67,11 +64,6 @@ pub(crate) struct Hub<'f, R: Wait> {
     accepted: AtomicU64,
     // those of the round
     swaps: AtomicU64,
-    sessions: AtomicU64,
-    // the most entries that its messages lead to
-    owed: AtomicU64,
-    // the bytes of its messages, as often as its journal keeps them at most
-    bytes: AtomicU64,
     has_stopped: AtomicBool,
     fault: Mutex<Option<RunFault>>,
     swap: Mutex<Swap>,
@@ -87,20 +79,6 @@ enum Swap {
     None,
     Asked(String),
     Done(String),
-}
-
-/// What a round has taken: the most entries that its messages lead to, their bytes as often as its journal keeps them at most, sessions, and swaps.
-#[derive(Clone, Copy)]
-pub(crate) struct Load {
-    pub(crate) entries: u64,
-    pub(crate) bytes: u64,
-    pub(crate) sessions: u64,
-    pub(crate) swaps: u64,
-}
-
-/// The most entries that a message for as many receivers leads to: its arrival, and for each a job, its result, and that it is given out.
-fn entries_for(receivers: u64) -> u64 {
-    receivers.saturating_mul(3).saturating_add(1)
 }
 
 /// What a gateway counts since its start.
@@ -151,9 +129,6 @@ impl<'f, R: Wait> Hub<'f, R> {
             version: AtomicU64::new(0),
             accepted: AtomicU64::new(0),
             swaps: AtomicU64::new(0),
-            sessions: AtomicU64::new(0),
-            owed: AtomicU64::new(0),
-            bytes: AtomicU64::new(0),
             has_stopped: AtomicBool::new(false),
             fault: Mutex::new(None),
             swap: Mutex::new(Swap::None),
@@ -193,9 +168,6 @@ impl<'f, R: Wait> Hub<'f, R> {
     pub(crate) fn begin_round(&self, entries: u64) {
         self.entries.store(entries, Ordering::SeqCst);
         self.swaps.store(0, Ordering::SeqCst);
-        self.sessions.store(0, Ordering::SeqCst);
-        self.owed.store(0, Ordering::SeqCst);
-        self.bytes.store(0, Ordering::SeqCst);
         self.rounds.fetch_add(1, Ordering::SeqCst);
         let fault = self.fault.lock(self.rt);
         if fault.is_none() && !self.has_stopped.load(Ordering::SeqCst) {
@@ -264,46 +236,14 @@ impl<'f, R: Wait> Hub<'f, R> {
         self.entries.store(entries, Ordering::SeqCst);
     }
 
-    /// A session began in this round.
-    pub(crate) fn count_session(&self) {
-        self.sessions.fetch_add(1, Ordering::SeqCst);
-    }
-
-    /// Whether the round's journal has room for a message more, and for all that it leads to. It then counts as one of the round, with its bytes.
-    pub(crate) fn let_in(&self, bytes: usize) -> bool {
-        let receivers = self.spools.len() as u64;
-        let more = entries_for(receivers);
-        let owed = self.owed.fetch_add(more, Ordering::SeqCst);
-        // (the first one is let in, whatever it leads to: a full journal is a fault, and waiting would not help)
-        if owed > 0 && owed.saturating_add(more) > ROOM {
-            self.owed.fetch_sub(more, Ordering::SeqCst);
-            return false;
-        }
-        let kept = (bytes as u64).saturating_mul(receivers.saturating_add(1));
-        self.bytes.fetch_add(kept, Ordering::SeqCst);
-        true
-    }
-
-    /// A message that was let in goes to as many receivers.
-    pub(crate) fn settle(&self, receivers: u64) {
-        let most = entries_for(self.spools.len() as u64);
-        let less = most.saturating_sub(entries_for(receivers));
-        self.owed.fetch_sub(less, Ordering::SeqCst);
-    }
-
-    /// What the round has taken.
-    pub(crate) fn load(&self) -> Load {
-        Load {
-            entries: self.owed.load(Ordering::SeqCst),
-            bytes: self.bytes.load(Ordering::SeqCst),
-            sessions: self.sessions.load(Ordering::SeqCst),
-            swaps: self.swaps.load(Ordering::SeqCst),
-        }
-    }
-
     /// A message was accepted.
     pub(crate) fn count_accepted(&self) {
         self.accepted.fetch_add(1, Ordering::SeqCst);
+    }
+
+    /// How many plans were swapped in this round.
+    pub(crate) fn swaps(&self) -> u64 {
+        self.swaps.load(Ordering::SeqCst)
     }
 
     /// What it counts since its start.

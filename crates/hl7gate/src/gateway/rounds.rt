@@ -3,7 +3,7 @@ ghost use Rattle.std.specs.Prelude.{◌≡◌};
 ghost use Rattle.std.specs.Thread.{IsSend, IsSync};
 
 use crate::doors::{Reporter, Who};
-use crate::gateway::hub::{Hub, Load};
+use crate::gateway::hub::Hub;
 use crate::gateway::numbers::Numbers;
 use crate::gateway::outgoing::Filling;
 use crate::gateway::relay::Relay;
@@ -27,12 +27,6 @@ use std::time::{Clock, Duration, Instant};
 
 /// After how many entries of the journal a round ends.
 const LONG: u64 = 50_000;
-
-/// After how many bytes of messages and translations it does: the journal keeps them.
-const LARGE: u64 = 268_435_456;
-
-/// After how many sessions it does: each takes a part of the ledger.
-const SESSIONS: u64 = 100_000;
 
 /// After how many swaps it does: the journal keeps each plan.
 const MANY: u64 = 20;
@@ -100,13 +94,9 @@ fn work<L: Ledger, R: Wait + Clock + Eprint + AllocGlobal>(
         return;
     };
     let worked = work_at(service, &mut door, number);
-    let met_full = door.met_full();
     service.hand_in(door);
-    match worked {
-        Err(fault) => hub.fail(fault),
-        // (its journal has no room for what was accepted)
-        Ok(()) if met_full => hub.fail(RunFault::Memory),
-        Ok(()) => {}
+    if let Err(fault) = worked {
+        hub.fail(fault);
     }
 }
 
@@ -115,6 +105,7 @@ fn take_senders<
     L: Ledger + Send,
     R: Threads + Wait + Clock + Files<File = File> + Eprint + AllocGlobal + Sync,
 >(service: &Service<'_, L, R>, hub: &Hub<'_, R>) {
+    let begun = hub.entries();
     thread::scope(
         thread::scope_env(),
         hub.rt,
@@ -135,7 +126,7 @@ fn take_senders<
                     return;
                 }
                 swap_asked(service, hub);
-                notice = look(hub, notice);
+                notice = look(hub, begun, notice);
             }
         },
     );
@@ -179,14 +170,9 @@ fn swap_asked<L: Ledger, R: Wait + Clock + Files<File = File> + Eprint + AllocGl
     hub.end_swap(swapped.ok(), answer);
 }
 
-/// Whether a round has taken as much as one takes.
-fn is_long(load: Load) -> bool {
-    load.entries >= LONG || load.bytes >= LARGE || load.sessions >= SESSIONS || load.swaps >= MANY
-}
-
-/// Ends the round after notice, where it is long, or where a plan is to be installed and nothing works beside the round any more.
-fn look<R: Wait + Clock>(hub: &Hub<'_, R>, notice: Option<Instant>) -> Option<Instant> {
-    let is_long = is_long(hub.load());
+/// Ends the round after notice, where its journal is long, or where a plan is to be installed and nothing works beside the round any more.
+fn look<R: Wait + Clock>(hub: &Hub<'_, R>, begun: u64, notice: Option<Instant>) -> Option<Instant> {
+    let is_long = hub.entries().saturating_sub(begun) >= LONG || hub.swaps() >= MANY;
     match notice {
         None if is_long || hub.is_installing() => {
             hub.end_soon();
