@@ -191,7 +191,7 @@ pub(crate) fn print_conditions<E: Write>(
 
 // ---- leaves
 
-/// Whether a text begins with so many digits.
+/// Whether a text begins with this many digits.
 fn has_digits(text: &[u8], digits: u32) -> bool {
     match text.get(..digits as usize) {
         None => false,
@@ -199,7 +199,7 @@ fn has_digits(text: &[u8], digits: u32) -> bool {
     }
 }
 
-/// Whether each text that the source lists there begins with so many digits.
+/// Whether each text that the source lists there begins with this many digits.
 fn are_dates(named: Named<'_>, digits: u32) -> bool {
     let Some(table) = table_of(named) else {
         return false;
