@@ -20,7 +20,11 @@ mod forwards;
 #[cfg(test)]
 mod gates;
 #[cfg(test)]
+mod journals;
+#[cfg(test)]
 mod locked;
+#[cfg(test)]
+mod logs;
 #[cfg(test)]
 mod maps;
 #[cfg(test)]

@@ -1,0 +1,3 @@
+pub mod Rules
+pub mod Logs
+pub mod Stored
