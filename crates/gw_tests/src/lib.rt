@@ -20,6 +20,8 @@ mod forwards;
 #[cfg(test)]
 mod gates;
 #[cfg(test)]
+mod journals;
+#[cfg(test)]
 mod locked;
 #[cfg(test)]
 mod maps;

@@ -1,0 +1,117 @@
+-- What is known of a journal, by its history.
+use Rattle.std.specs.Prelude.{ℕ, ◌<◌, ◌≤◌, ◌≡◌, ◌^◌, max, Bool, false, List, [], ◌∷◌, ◌++◌, length, take, drop, map, slice_get, Option, Some, IfSome, Vec}
+use Rattle.std.specs.declared.alloc.Global.{Global}
+use mathlib.Core.List.{IsPrefix}
+use Rattle.gw_journal.specs.declared.event.Event.{Event}
+use Rattle.gw_journal.specs.declared.event.Event.TheVariants.{Put, Synced}
+
+-- the bytes of records in memory
+abbrev pub records_of : List (Vec ℕ Global) → List (List ℕ)
+records_of = map (λ v. v.items)
+
+-- all records in order, and how many of them are on the disk
+pub record Log : Type 0 where
+  pub records : List (List ℕ)
+  pub synced : ℕ
+
+-- a journal as it is opened
+abbrev pub opened : List (List ℕ) → Log
+opened records = record { records = records; synced = length records }
+
+-- a journal after one event more
+abbrev pub next : Log → Event → Log
+next log (Put bytes) = record log { records = log.records ++ bytes ∷ [] }
+next log (Synced count) = record log { synced = max log.synced count }
+
+abbrev pub after : Log → List Event → Log
+after log [] = log
+after log (event ∷ events) = after (next log event) events
+
+-- the journal, by the records that it had when it was opened
+abbrev pub log_in : List (List ℕ) → List Event → Log
+log_in before history = after (opened before) history
+
+-- the journal came later: nothing was forgotten
+pub record IsLater (old new : Log) : Type 0 where
+  pub more : List (List ℕ)
+  pub records : new.records ≡ old.records ++ more
+  pub synced : old.synced ≤ new.synced
+
+-- a record stands at this place of the journal
+abbrev pub IsAt : ℕ → List ℕ → Log → Type 0
+IsAt place bytes log = slice_get log.records place ≡ Some bytes
+
+-- A receipt: a record stands at this place of the journal, and is on the disk
+pub record IsStored (place : ℕ) (bytes : List ℕ) (log : Log) : Type 0 where
+  pub there : IsAt place bytes log
+  pub synced : place < log.synced
+
+-- what was seen of a journal, and a place in it
+pub record TicketState : Type 0 where
+  pub history : List Event
+  pub place : ℕ
+
+-- ---- the storage
+
+-- Of the records of a journal the storage was given the first, this many. Of these the settled ones count, and the others are pending
+abbrev pub Keeps : {S : Type 0} → (S → List (List ℕ) → List (List ℕ) → Type 0) → S → (settled given : ℕ) → Log → Type 0
+Keeps stands s settled given log = stands s (take settled log.records) (drop settled (take given log.records))
+
+-- a record stands at this place of whatever a crash leaves from the one moment to the other
+pub record Outlives {S : Type 0} (leaves : S → S → List (List ℕ) → List (List ℕ) → Type 0) (old new : S) (place : ℕ) (bytes : List ℕ) : Type 0 where
+  pub these : List (List ℕ)
+  pub more : List (List ℕ)
+  pub left : leaves old new these (these ++ more)
+  pub there : slice_get these place ≡ Some bytes
+
+-- it stands at this place of the storage, whatever crash comes
+pub record StandsAt {S : Type 0} (stands : S → List (List ℕ) → List (List ℕ) → Type 0) (s : S) (place : ℕ) (bytes : List ℕ) : Type 0 where
+  pub these : List (List ℕ)
+  pub pending : List (List ℕ)
+  pub stand : stands s these pending
+  pub there : slice_get these place ≡ Some bytes
+
+-- ---- what lies under the lock, and what a thread takes from there
+
+-- the storage, where no thread has it; the records that it wasn't given; how many it was given, and how many of them count; the history
+pub record DeskState (S : Type 0) : Type 0 where
+  pub storage : Option S
+  pub batch : List (List ℕ)
+  pub given : ℕ
+  pub settled : ℕ
+  pub history : List Event
+  pub fault : Bool
+
+-- the counts and the records are those of the journal
+pub record IsTrue {S : Type 0} (stands : S → List (List ℕ) → List (List ℕ) → Type 0) (storage : Option S) (batch : List (List ℕ))
+    (given settled : ℕ) (log : Log) : Type 0 where
+  pub not_given : batch ≡ drop given log.records
+  pub within : given ≤ length log.records
+  pub order : settled ≤ given
+  pub synced : log.synced ≤ settled
+  pub room : length log.records ≤ 2 ^ 62
+  pub keeps : IfSome storage (λ s. Keeps stands s settled given log)
+
+-- the storage with a batch that it is to be given, and what of the history was seen when both were taken
+pub record JobState (S : Type 0) : Type 0 where
+  pub storage : S
+  pub batch : List (List ℕ)
+  pub given : ℕ
+  pub settled : ℕ
+  pub history : List Event
+
+abbrev pub IsJob : {S : Type 0} → (S → List (List ℕ) → List (List ℕ) → Type 0) → JobState S → Log → Type 0
+IsJob stands job log = IsTrue stands (Some job.storage) job.batch job.given job.settled log
+
+-- the storage has all of them
+pub record IsDone {S : Type 0} (stands : S → List (List ℕ) → List (List ℕ) → Type 0) (done : JobState S) (log : Log) : Type 0 where
+  pub all : done.given ≡ length log.records
+  pub order : done.settled ≤ done.given
+  pub keeps : Keeps stands done.storage done.settled done.given log
+
+-- what comes back is what a thread took last
+pub record ComesBack {S : Type 0} (desk : DeskState S) (done : JobState S) : Type 0 where
+  pub well : desk.fault ≡ false
+  pub given : done.given ≡ desk.given
+  pub more : desk.settled ≤ done.settled
+  pub part : IsPrefix done.history desk.history

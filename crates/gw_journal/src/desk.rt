@@ -1,0 +1,317 @@
+//! What lies under the lock of a journal, and what threads take from it.
+ghost use Rattle.std.specs.Prelude.{◌≡◌, ◌≤◌, [], IfOk, IfErr, IfSome, OnOk, true, length, ℕ, List, ◌++◌};
+ghost use mathlib.Core.List.{IsPrefix};
+ghost use Rattle.gw_journal.specs.Logs.{ComesBack, IsAt, IsStored, Outlives, StandsAt, log_in, records_of};
+
+use crate::book::{Front, History, Naming, Opened, Putting, Syncing};
+use crate::fault::JournalFault;
+use crate::storage::Storage;
+use std::alloc::Global;
+use std::marker::Model;
+use std::mem::replace;
+
+/// The most records of a journal.
+const MOST: u64 = 1 << 62;
+
+/// A record that was put, at its place in the journal. It need not be on the disk yet.
+#[derive(Drop)]
+pub struct Ticket<J: Naming> {
+    front: Front<J>,
+    place: u64,
+}
+
+impl<J: Naming> Model for Ticket<J> {
+    ghost use Rattle.gw_journal.specs.Logs.{TicketState};
+
+    ghost Value = { TicketState };
+
+    ghost view = { λ t. record { history = t.front; place = t.place } };
+}
+
+/// What was seen of a journal, with a record that is on the disk, at its place. It stays there.
+#[derive(Drop)]
+pub struct Receipt<J: Naming> {
+    front: Front<J>,
+    place: u64,
+}
+
+impl<J: Naming> Model for Receipt<J> {
+    ghost use Rattle.gw_journal.specs.Logs.{TicketState};
+
+    ghost Value = { TicketState };
+
+    ghost view = { λ t. record { history = t.front; place = t.place } };
+}
+
+/// What lies under the lock: the storage, where no thread has it, and the records that it wasn't given.
+#[derive(Drop)]
+pub struct Desk<J: Naming, S: Storage + Drop> {
+    storage: Option<S>,
+    batch: Vec<Vec<u8>>,
+    given: u64,
+    settled: u64,
+    history: History<J>,
+    fault: Option<JournalFault>,
+}
+
+impl<J: Naming, S: Storage + Drop> Model for Desk<J, S> {
+    ghost use Rattle.std.specs.Prelude.{◌≡◌, ◌≤◌, false, is_some};
+    ghost use Rattle.gw_journal.specs.Logs.{DeskState, IsTrue, log_in, records_of};
+
+    ghost Value = { DeskState S };
+
+    ghost view = { λ d. record { storage = d.storage; batch = records_of d.batch.items; given = d.given; settled = d.settled; history = d.history; fault = is_some d.fault } };
+
+    ghost invariant = { λ d. (is_some d.fault ≡ false → IsTrue S.stands d.storage (records_of d.batch.items) d.given d.settled (log_in J.before d.history))
+        × (d.settled ≤ (log_in J.before d.history).synced) };
+}
+
+/// The storage with a batch that it is to be given. An empty one: what is pending is to count.
+#[derive(Drop)]
+pub struct Job<J: Naming, S: Storage + Drop> {
+    storage: S,
+    batch: Vec<Vec<u8>>,
+    given: u64,
+    settled: u64,
+    front: Front<J>,
+}
+
+impl<J: Naming, S: Storage + Drop> Model for Job<J, S> {
+    ghost use Rattle.gw_journal.specs.Logs.{JobState, IsJob, log_in, records_of};
+
+    ghost Value = { JobState S };
+
+    ghost view = { λ j. record { storage = j.storage; batch = records_of j.batch.items; given = j.given; settled = j.settled; history = j.front } };
+
+    ghost invariant = { λ j. IsJob S.stands (record { storage = j.storage; batch = records_of j.batch.items; given = j.given; settled = j.settled; history = j.front }) (log_in J.before j.front) };
+}
+
+/// The storage, which has all that was put when it was taken.
+#[derive(Drop)]
+pub struct Done<J: Naming, S: Storage + Drop> {
+    storage: S,
+    given: u64,
+    settled: u64,
+    front: Front<J>,
+}
+
+impl<J: Naming, S: Storage + Drop> Model for Done<J, S> {
+    ghost use Rattle.std.specs.Prelude.{[]};
+    ghost use Rattle.gw_journal.specs.Logs.{JobState, IsDone, log_in};
+
+    ghost Value = { JobState S };
+
+    ghost view = { λ j. record { storage = j.storage; batch = []; given = j.given; settled = j.settled; history = j.front } };
+
+    ghost invariant = { λ j. IsDone S.stands (record { storage = j.storage; batch = []; given = j.given; settled = j.settled; history = j.front }) (log_in J.before j.front) };
+}
+
+impl<J: Naming> Receipt<J> {
+    /// The place of its record in the journal.
+    pub fn place(&self) -> u64
+        ensures { result ≡ self.now.place }
+    {
+        self.place
+    }
+}
+
+// The longer of two beginnings of the history, where the one has the record at its place, and by the other this many are on the disk.
+#[tactic(auto, using(crate::proofs::Logging::stored_by, crate::proofs::Logging::stored_same))]
+fn stored<J: Naming>(ticket: &Ticket<J>, front: &Front<J>, synced: u64) -> Option<Receipt<J>>
+    requires { synced ≤ (log_in J.before front.now).synced }
+    ensures place { IfSome result (λ r. r.place ≡ ticket.now.place) }
+    ensures stored { (bytes : List ℕ) → IsAt ticket.now.place bytes (log_in J.before ticket.now.history)
+        → IfSome result (λ r. IsStored ticket.now.place bytes (log_in J.before r.history)) }
+{
+    if synced <= ticket.place {
+        return None;
+    }
+    let place = ticket.place;
+    if ticket.front.begins(front) {
+        return Some(Receipt {
+            front: front.again(),
+            place,
+        });
+    }
+    Some(Receipt {
+        front: ticket.front.again(),
+        place,
+    })
+}
+
+// Gives a storage a batch. With an empty one it settles.
+fn bring<S: Storage>(storage: &mut S, batch: &[Vec<u8>]) -> Result<(), JournalFault>
+    ensures ok { (these those : List (List ℕ)) → S.stands storage.old these those →
+        OnOk result (S.stands storage.new (these ++ those) (records_of batch.now)) }
+    ensures any_moment { (these those : List (List ℕ)) → S.stands storage.old these those →
+        S.leaves storage.old storage.new these (these ++ those) }
+{
+    if batch.is_empty() {
+        return storage.settle();
+    }
+    storage.put(batch)
+}
+
+impl<J: Naming, S: Storage + Drop> Job<J, S> {
+    /// Gives the storage its batch, or has it settle. A crash at any moment leaves each record that there was a receipt for.
+    pub fn run(self) -> Result<Done<J, S>, (JournalFault, S)>
+        ensures same { IfOk result (λ done. done.history ≡ self.history) }
+        ensures any_moment { IfOk result (λ done. (place : ℕ) (bytes : List ℕ) → IsStored place bytes (log_in J.before self.history)
+            → Outlives S.leaves self.storage done.storage place bytes) }
+        ensures any_moment_err { IfErr result (λ e. (place : ℕ) (bytes : List ℕ) → IsStored place bytes (log_in J.before self.history)
+            → Outlives S.leaves self.storage e.1 place bytes) }
+    {
+        let Job {
+            storage,
+            batch,
+            given,
+            settled: _,
+            front,
+        } = self;
+        let mut storage = storage;
+        match bring(&mut storage, &batch) {
+            Err(fault) => Err((fault, storage)),
+            Ok(()) => Ok(Done {
+                storage,
+                given: given + batch.len() as u64,
+                settled: given,
+                front,
+            }),
+        }
+    }
+}
+
+impl<J: Naming, S: Storage + Drop> Desk<J, S> {
+    /// The journal over a storage that has this many records, and none pending.
+    #[tactic(auto, using(crate::proofs::Logging::true_opened))]
+    pub fn open(alloc: Global, opened: Opened, storage: S, count: u64) -> Desk<J, S>
+        requires book { opened.seen.book ≡ J.book }
+        requires stands { S.stands storage J.before [] }
+        requires count { count ≡ length J.before }
+        ensures { result.history ≡ [] }
+    {
+        Desk {
+            storage: Some(storage),
+            batch: Vec::new(alloc),
+            given: count,
+            settled: count,
+            history: opened.named::<J>(),
+            fault: if count > MOST {
+                Some(JournalFault::Full)
+            } else {
+                None
+            },
+        }
+    }
+
+    /// Why nothing more is asked of the journal, if that is so.
+    pub fn fault(&self) -> Option<JournalFault> {
+        self.fault
+    }
+
+    /// Puts a record after the others. An allocation failure leaves the journal as it was.
+    pub fn put(&mut self, bytes: Vec<u8>) -> Result<Ticket<J>, JournalFault>
+        ensures put { IfOk result (λ t. IsAt t.place bytes.items (log_in J.before t.history)) }
+        ensures seen { IfOk result (λ t. t.history ≡ self.new.history) }
+        ensures later { IsPrefix self.old.history self.new.history }
+    {
+        if let Some(fault) = self.fault {
+            return Err(fault);
+        }
+        if self.batch.reserve(1).is_err() {
+            return Err(JournalFault::Memory);
+        }
+        let place = self.given + self.batch.len() as u64;
+        if place >= MOST {
+            return Err(JournalFault::Full);
+        }
+        if !self.history.add(&Putting { bytes: &bytes }) {
+            self.fault = Some(JournalFault::Full);
+            return Err(JournalFault::Full);
+        }
+        self.batch.push_reserved(bytes);
+        Ok(Ticket {
+            front: self.history.front().again(),
+            place,
+        })
+    }
+
+    /// The storage, with what it wasn't given yet. None: another thread has it, or all that was put counts.
+    pub fn take(&mut self, alloc: Global) -> Option<Job<J, S>>
+        ensures same { self.new.history ≡ self.old.history }
+        ensures seen { IfSome result (λ job. job.history ≡ self.old.history) }
+    {
+        if self.fault.is_some() || self.batch.is_empty() && self.given == self.settled {
+            return None;
+        }
+        let storage = self.storage.take()?;
+        let given = self.given;
+        self.given = given + self.batch.len() as u64;
+        Some(Job {
+            storage,
+            batch: replace(&mut self.batch, Vec::new(alloc)),
+            given,
+            settled: self.settled,
+            front: self.history.front().again(),
+        })
+    }
+
+    // Whether this is what a thread took last.
+    fn is_ours(&self, done: &Done<J, S>) -> bool
+        ensures { result ≡ true → ComesBack self.now done.now }
+    {
+        self.fault.is_none()
+            && done.given == self.given
+            && done.settled >= self.settled
+            && done.front.begins(self.history.front())
+    }
+
+    /// The storage comes back.
+    pub fn give_back(&mut self, done: Done<J, S>)
+        ensures later { IsPrefix self.old.history self.new.history }
+    {
+        if !self.is_ours(&done) {
+            self.fault = Some(JournalFault::Disk);
+            return;
+        }
+        let Done {
+            storage,
+            settled,
+            ..
+        } = done;
+        if !self.history.add(&Syncing { count: settled }) {
+            self.fault = Some(JournalFault::Full);
+            return;
+        }
+        self.storage = Some(storage);
+        self.settled = settled;
+    }
+
+    /// The storage didn't come back: this is why.
+    pub fn fail(&mut self, fault: JournalFault)
+        ensures same { self.new.history ≡ self.old.history }
+    {
+        self.fault = Some(fault);
+    }
+
+    /// The receipt of a record, where it is on the disk.
+    pub fn receipt(&self, ticket: &Ticket<J>) -> Option<Receipt<J>>
+        ensures place { IfSome result (λ r. r.place ≡ ticket.now.place) }
+        ensures stored { (bytes : List ℕ) → IsAt ticket.now.place bytes (log_in J.before ticket.now.history)
+            → IfSome result (λ r. IsStored ticket.now.place bytes (log_in J.before r.history)) }
+    {
+        stored(ticket, self.history.front(), self.settled)
+    }
+
+    /// Gives the storage back, where it is here and the receipt is one of this journal: its record stands at its place.
+    pub fn close(self, receipt: &Receipt<J>) -> Option<S>
+        ensures { (place : ℕ) (bytes : List ℕ) → IsStored place bytes (log_in J.before receipt.now.history)
+            → IfSome result (λ s. StandsAt S.stands s place bytes) }
+    {
+        if self.fault.is_some() || !receipt.front.begins(self.history.front()) {
+            return None;
+        }
+        let Desk { storage, .. } = self;
+        storage
+    }
+}

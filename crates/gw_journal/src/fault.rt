@@ -1,0 +1,16 @@
+//! Why a journal did not do what was asked.
+use thiserror::Error;
+
+/// Why a journal did not do what was asked.
+#[derive(Clone, Copy, Debug, PartialEq, Eq, Error)]
+pub enum JournalFault {
+    /// An allocation failed.
+    #[error("out of memory")]
+    Memory,
+    /// The disk has failed, in this call or in an earlier one. The journal is asked nothing more: open it again.
+    #[error("the disk has failed")]
+    Disk,
+    /// The journal has 2^62 records.
+    #[error("the journal has no room")]
+    Full,
+}

@@ -1,0 +1,28 @@
+//! What keeps the records of a journal.
+ghost use Rattle.std.specs.Prelude.{◌++◌, [], List, ℕ, OnOk};
+ghost use Rattle.gw_journal.specs.Logs.{records_of};
+
+use crate::fault::JournalFault;
+
+/// A log by one owner, who appends batches of records. After a fault it is asked nothing more.
+pub trait Storage {
+    /// It has the first records, whatever crash comes, and the second are pending after them.
+    ghost stands: { Self → List (List ℕ) → List (List ℕ) → Type 0 };
+
+    /// A crash at any moment from the one to the other leaves the first records, or the second.
+    ghost leaves: { Self → Self → List (List ℕ) → List (List ℕ) → Type 0 };
+
+    /// Puts a batch after the others. At `Ok` what was pending counts, and the batch is pending.
+    fn put(&mut self, batch: &[Vec<u8>]) -> Result<(), JournalFault>
+        ensures ok { (these those : List (List ℕ)) → stands self.old these those →
+            OnOk result (stands self.new (these ++ those) (records_of batch.now)) }
+        ensures any_moment { (these those : List (List ℕ)) → stands self.old these those →
+            leaves self.old self.new these (these ++ those) };
+
+    /// Brings what is pending to the disk. At `Ok` it counts.
+    fn settle(&mut self) -> Result<(), JournalFault>
+        ensures ok { (these those : List (List ℕ)) → stands self.old these those →
+            OnOk result (stands self.new (these ++ those) []) }
+        ensures any_moment { (these those : List (List ℕ)) → stands self.old these those →
+            leaves self.old self.new these (these ++ those) };
+}
