@@ -1,0 +1,10 @@
+pub mod Moments
+mod Ends
+pub mod Crash
+mod Ways
+mod Entries
+pub mod Places
+pub mod Sound
+pub mod Logs
+pub mod Turning
+pub mod Placing

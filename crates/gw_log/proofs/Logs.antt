@@ -1,0 +1,134 @@
+-- What the steps of a call make of a log.
+use Rattle.std.proofs.Common.{◌≡◌, ◌≢◌, inl, inr, ℕ, ◌+◌, ◌<◌, ◌≤◌, List, [], ◌∷◌, ◌++◌, length, refl, sym, ◌∙◌, ap, subst, arith, append_assoc, length-append}
+use Rattle.std.proofs.Common.{get_or, take}
+use Rattle.std.specs.Prelude.{Vec}
+use Rattle.std.specs.declared.alloc.Global.{Global}
+use Rattle.std.proofs.lemmas.List.{take_more, map-append}
+use Rattle.gw_log.specs.Disk.{Files, Changes}
+use Rattle.gw_log.specs.File.{Has, HasEither, HasOrIs}
+use Rattle.gw_log.specs.State.{Stands, records_of}
+use Rattle.gw_log.specs.Chain.{Head, spelled, AreSome, IsEnded, AreBefore, none, more, IsUnborn, Origin, IsLast, IsLog, LogState, Holds, IsEither}
+use Rattle.gw_log.proofs.Sound.{or_either, either_old}
+use Rattle.gw_log.proofs.Ends.{short-append}
+
+pub some-append : (old new : List (List ℕ)) → AreSome old → AreSome new → AreSome (old ++ new)
+some-append [] new some fresh = fresh
+some-append (r ∷ old) new some fresh = (some.0, some-append old new some.1 fresh)
+
+-- files that are ended have lower numbers
+pub before_le : (id : ℕ) (files : Files) (last : Head) (n f b : ℕ) (records : List (List ℕ)) → AreBefore id files last n f b records → n ≤ last.number
+before_le id files last n f b _ (none _ _ _ follows) = omega (arith, follows.its_number)
+before_le id files last n f b _ (more _ _ _ h these those follows is rest) =
+    let le = before_le id files last (n + 1) (f + length these) (length (files n)) those rest in omega (arith, le)
+
+-- they are so in a folder that has the same there
+pub before_same : (id : ℕ) (files c : Files) (last : Head) (n f b : ℕ) (records : List (List ℕ)) → ((m : ℕ) → m < last.number → c m ≡ files m)
+    → AreBefore id files last n f b records → AreBefore id c last n f b records
+before_same id files c last n f b _ same (none _ _ _ follows) = none n f b follows
+before_same id files c last n f b _ same (more _ _ _ h these those follows is rest) =
+    let le = before_le id files last (n + 1) (f + length these) (length (files n)) those rest in
+    let here : files n ≡ c n = sym (same n (omega (arith, le))) in
+    more n f b h these those follows (subst (λ l. IsEnded h these l) here is)
+    (subst (λ (l : List ℕ). AreBefore id c last (n + 1) (f + length these) (length l) those) here
+    (before_same id files c last (n + 1) (f + length these) (length (files n)) those same rest))
+
+-- a file without a byte is unborn
+pub no_file : (file : List ℕ) → file ≡ [] → IsUnborn file
+no_file file is = record { records = []; has = record { end = []; whole = is; short = tt; unsynced = tt }; at_most = omega arith }
+
+module _ {D : Type 0} (seen : D → Files) (may_leave : D → Files → Type 0) (s : LogState D) (from : Origin) (records pending : List (List ℕ))
+    (h : Holds seen may_leave s from records pending) where
+  abbrev files : Files
+  files = seen s.segment.disk
+
+  pub from_le : from.number ≤ h.head.number
+  from_le = before_le s.id files h.head from.number from.first from.before h.front h.ended
+
+  -- where the last file and the one behind it are as they may be, the folder is a log
+  pub log_with : (c : Files) (these : List (List ℕ)) → IsLast h.head these (c h.head.number) → ((m : ℕ) → m < h.head.number → c m ≡ files m)
+      → IsUnborn (c (h.head.number + 1)) → ((m : ℕ) → h.head.number + 1 < m → c m ≡ []) → IsLog s.id c from (h.front ++ these)
+  log_with c these last same unborn none_above = record {
+    head = h.head;
+    front = h.front;
+    these = these;
+    ended = before_same s.id files c h.head from.number from.first from.before h.front same h.ended;
+    last = last;
+    all = refl;
+    there = h.there;
+    none_below = λ m lt. same m (omega (arith, lt, from_le)) ∙ h.none_below m lt;
+    unborn = unborn;
+    none_above = none_above;
+  }
+
+  -- what a crash leaves where the last file alone is in motion
+  pub either_of : (c : Files) (P : List ℕ → Type 0) → ((f : List ℕ) → P f → HasEither (spelled h.head ∷ h.these) ((spelled h.head ∷ h.these) ++ pending) f)
+      → Changes s.segment.number P files c → IsEither s.id from records (records ++ pending) c
+  either_of c P has changes = by (has (c s.segment.number) changes.here)
+    where
+      number : s.segment.number ≡ h.head.number
+      number = sym h.number
+
+      log : (these : List (List ℕ)) → AreSome these → Has (spelled h.head ∷ these) (c s.segment.number) → IsLog s.id c from (h.front ++ these)
+      log these some have =
+          log_with c these (record { wide = h.wide; some = some; has = subst (λ n. Has (spelled h.head ∷ these) (c n)) number have })
+          (λ m lt. changes.others m (λ is. omega (arith, is, number, lt)))
+          (no_file (c (h.head.number + 1)) (changes.others (h.head.number + 1) (λ is. omega (arith, is, number)) ∙ h.none_above (h.head.number + 1) (omega arith)))
+          (λ m lt. changes.others m (λ is. omega (arith, is, number, lt)) ∙ h.none_above m (omega (arith, lt)))
+
+      by : HasEither (spelled h.head ∷ h.these) ((spelled h.head ∷ h.these) ++ pending) (c s.segment.number) → IsEither s.id from records (records ++ pending) c
+      by (inl old) = inl (subst (λ l. IsLog s.id c from l) (sym h.all) (log h.these h.some old))
+      by (inr new) =
+          inr (subst (λ l. IsLog s.id c from l) (sym (append_assoc h.front h.these pending) ∙ ap (λ (l : List (List ℕ)). l ++ pending) (sym h.all))
+          (log (h.these ++ pending) (some-append h.these pending h.some h.fresh) new))
+
+  pub either_settled : (c : Files) → Changes s.segment.number (HasOrIs (spelled h.head ∷ h.these) ((spelled h.head ∷ h.these) ++ pending)) files c
+      → IsEither s.id from records (records ++ pending) c
+  either_settled c changes =
+      let st = h.stands.staged in
+      either_of c (HasOrIs (spelled h.head ∷ h.these) ((spelled h.head ∷ h.these) ++ pending))
+      (λ f has. or_either (spelled h.head ∷ h.these) ((spelled h.head ∷ h.these) ++ pending) f (short-append (spelled h.head ∷ h.these) pending st.short st.fits) has) changes
+
+  pub either_so : (c : Files) → may_leave s.segment.disk c → IsEither s.id from records (records ++ pending) c
+  either_so c may =
+      either_of c (HasEither (spelled h.head ∷ h.these) ((spelled h.head ∷ h.these) ++ pending)) (λ f has. has)
+      (either_old seen may_leave s.segment.disk s.segment.number s.segment.end s.segment.reach (spelled h.head ∷ h.these) pending h.stands.staged c may)
+
+  -- the log holds what was pending too
+  pub holds_more : (t : LogState D) (batch : List (List ℕ)) → Stands seen may_leave t.segment ((spelled h.head ∷ h.these) ++ pending) batch → AreSome batch
+      → t.segment.number ≡ s.segment.number → ((m : ℕ) → m ≢ s.segment.number → seen t.segment.disk m ≡ files m) → t.id ≡ s.id → t.first ≡ s.first
+      → t.count ≡ s.count + length batch → t.oldest ≡ s.oldest → t.least ≡ s.least → Holds seen may_leave t from (records ++ pending) batch
+  holds_more t batch stands some number same id first count oldest least = record {
+    head = h.head;
+    front = h.front;
+    these = h.these ++ pending;
+    ended = subst (λ n. AreBefore n (seen t.segment.disk) h.head from.number from.first from.before h.front) (sym id)
+        (before_same s.id files (seen t.segment.disk) h.head from.number from.first from.before h.front
+        (λ m lt. same m (λ is. omega (arith, is, h.number, lt))) h.ended);
+    wide = h.wide;
+    some = some-append h.these pending h.some h.fresh;
+    fresh = some;
+    stands = stands;
+    number = h.number ∙ sym number;
+    all = ap (λ (l : List (List ℕ)). l ++ pending) h.all ∙ append_assoc h.front h.these pending;
+    there = h.there;
+    none_below = λ m lt. same m (λ is. omega (arith, is, h.number, lt, from_le)) ∙ h.none_below m lt;
+    none_above = λ m lt. same m (λ is. omega (arith, is, h.number, lt)) ∙ h.none_above m lt;
+    first = h.first ∙ sym first;
+    count = count ∙ counted;
+    oldest = h.oldest ∙ sym oldest;
+    least = h.least ∙ sym least;
+  }
+    where
+      counted : s.count + length batch ≡ length (h.these ++ pending) + length batch
+      counted = omega (arith, h.count, length-append h.these pending)
+
+-- ---- records in memory
+
+pub some_more : (xs : List (Vec ℕ Global)) (i : ℕ) (v : Vec ℕ Global) → i < length xs → v ≡ get_or xs i v → v.items ≢ [] → AreSome (records_of (take i xs))
+    → AreSome (records_of (take (i + 1) xs))
+some_more xs i v lt at some so =
+    let rs = records_of (take i xs) in
+    let all : records_of (take (i + 1) xs) ≡ rs ++ v.items ∷ [] =
+    ap records_of (take_more xs i v lt) ∙ map-append (λ (w : Vec ℕ Global). w.items) (take i xs) (get_or xs i v ∷ [])
+    ∙ ap (λ (w : Vec ℕ Global). rs ++ w.items ∷ []) (sym at) in
+    subst AreSome (sym all) (some-append rs (v.items ∷ []) so (some, tt))

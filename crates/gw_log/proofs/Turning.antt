@@ -1,0 +1,280 @@
+-- How a log goes on to its next file.
+use Rattle.std.proofs.Common.{◌≡◌, ◌≢◌, ◌⊎◌, inl, inr, ℕ, ◌+◌, ◌<◌, ◌≤◌, ◌^◌, List, [], ◌∷◌, ◌++◌, length, refl, sym, ◌∙◌, ap, subst, arith, append_assoc, length-append}
+use Rattle.std.proofs.lemmas.List.{append-nil}
+use Rattle.sha2.specs.Sha256.{sha256}
+use Rattle.sha2.proofs.Facts256.{length-sha256}
+use Rattle.gw_log.specs.Disk.{Files, Changes, Only, LeavesOnly}
+use Rattle.gw_log.specs.File.{item, body, blocks, AreShort, Has, HasEither, HasOrIs}
+use Rattle.gw_log.specs.State.{staged, IsStaged, Stands, SegmentState}
+use Rattle.gw_log.specs.Chain.{Head, spelled, IsEnded, Follows, AreBefore, none, more, IsUnborn, Origin, IsLog, LogState, Holds, IsEither}
+use Rattle.gw_log.specs.own.Turns.{Turns, IsNext, HasTurned}
+use Rattle.gw_log.proofs.Crash.{has_shut}
+use Rattle.gw_log.proofs.Ends.{short-append, blocks-append}
+use Rattle.gw_log.proofs.Logs.{before_same, no_file, log_with, from_le}
+
+empty_short : length (item []) < 2 ^ 32
+empty_short = omega (arith, length-append (sha256 []) [], length-sha256 [])
+
+-- ---- the two files
+
+-- the next file is being begun
+pub begins : (number : ℕ) (these next : List (List ℕ)) (old c : Files) → AreShort these → old number ≡ staged these []
+    → Changes (number + 1) (HasEither [] next) old c → Turns number these next old c
+begins number these next old c short file changes = record {
+  others = λ m one two. changes.others m two;
+  either = inl (has_shut these 0 [] (c number) (omega arith) short (changes.others number (λ is. omega (arith, is)) ∙ file), changes.here);
+}
+
+module _ (number : ℕ) (these next : List (List ℕ)) (old mid : Files) (fits : AreShort next) (begun : mid (number + 1) ≡ staged next [])
+    (same : (m : ℕ) → m ≢ number + 1 → mid m ≡ old m) where
+  next_is : (m c : Files) → m (number + 1) ≡ mid (number + 1) → ((k : ℕ) → k ≢ number → c k ≡ m k) → c (number + 1) ≡ blocks next ++ 0 ∷ []
+  next_is m c there others = others (number + 1) (λ is. omega (arith, is)) ∙ there ∙ begun
+
+  next_has : (file : List ℕ) → file ≡ blocks next ++ 0 ∷ [] → HasEither [] next file
+  next_has file is = inr (has_shut next 0 [] file (omega arith) fits is)
+
+  -- the end is being written
+  pub ends : (c : Files) → Changes number (HasEither these (these ++ [])) mid c → Turns number these next old c
+  ends c changes = record {
+    others = λ m one two. changes.others m one ∙ same m two;
+    either = inl (has changes.here, next_has (c (number + 1)) (next_is mid c refl changes.others));
+  }
+    where
+      has : HasEither these (these ++ []) (c number) → Has these (c number)
+      has (inl h) = h
+      has (inr h) = subst (λ l. Has l (c number)) (append-nil these) h
+
+  -- it is being brought to the disk
+  pub closes : (last c : Files) → ((m : ℕ) → m ≢ number → last m ≡ mid m) → Changes number (HasOrIs these (these ++ [] ∷ [])) last c → Turns number these next old c
+  closes last c others changes =
+      let there = next_is last c (others (number + 1) (λ is. omega (arith, is))) changes.others in
+      record {
+        others = λ m one two. changes.others m one ∙ others m one ∙ same m two;
+        either = by there changes.here;
+      }
+    where
+      by : c (number + 1) ≡ blocks next ++ 0 ∷ [] → HasOrIs these (these ++ [] ∷ []) (c number)
+          → (Has these (c number) × HasEither [] next (c (number + 1)))
+          ⊎ ((c number ≡ blocks (these ++ [] ∷ []) ++ 0 ∷ []) × (c (number + 1) ≡ blocks next ++ 0 ∷ []) × AreShort next)
+      by there (inl h) = inl (h, next_has (c (number + 1)) there)
+      by there (inr is) = inr (is, there, fits)
+
+-- the segment is at its next file
+pub at_next : {D : Type 0} (seen : D → Files) (may_leave : D → Files → Type 0) (begun disk : D) (number size : ℕ) (next : List (List ℕ))
+    → IsStaged seen may_leave begun number size size next [] → seen disk number ≡ seen begun number → Only (seen disk) (may_leave disk)
+    → IsStaged seen may_leave disk number size size next []
+at_next seen may_leave begun disk number size next st same only = record {
+  file = same ∙ st.file;
+  short = st.short;
+  fits = tt;
+  ends = st.ends;
+  reaches = st.reaches;
+  durable = only;
+}
+
+-- ---- the log
+
+-- one file more is ended
+snoc : (id : ℕ) (files : Files) (last next : Head) (n f b : ℕ) (front these : List (List ℕ)) → AreBefore id files last n f b front → IsEnded last these (files last.number)
+    → Follows id (last.number + 1) (last.first + length these) (length (files last.number)) next → AreBefore id files next n f b (front ++ these)
+snoc id files last next n f b _ these (none _ _ _ fol) is follows =
+    let here : files last.number ≡ files n = ap (λ (k : ℕ). files k) fol.its_number in
+    let then : Follows id (n + 1) (f + length these) (length (files n)) next = record {
+      its_id = follows.its_id;
+      its_number = omega (arith, follows.its_number, fol.its_number);
+      its_first = omega (arith, follows.its_first, fol.its_first);
+      its_before = follows.its_before ∙ ap (λ (l : List ℕ). length l) here;
+    } in
+    subst (λ l. AreBefore id files next n f b l) (append-nil these)
+    (more n f b last these [] fol (subst (λ l. IsEnded last these l) here is) (none (n + 1) (f + length these) (length (files n)) then))
+snoc id files last next n f b _ these (more _ _ _ h some those fol ended rest) is follows =
+    subst (λ l. AreBefore id files next n f b l) (sym (append_assoc some those these))
+    (more n f b h some (those ++ these) fol ended (snoc id files last next (n + 1) (f + length some) (length (files n)) those these rest is follows))
+
+module _ {D : Type 0} (seen : D → Files) (may_leave : D → Files → Type 0) (s : LogState D) (from : Origin) (records : List (List ℕ))
+    (h : Holds seen may_leave s from records []) (oldest : ℕ) (batch : List (List ℕ)) (next : IsNext s oldest batch) (le : s.oldest ≤ oldest) where
+  abbrev old : Files
+  old = seen s.segment.disk
+
+  abbrev mine : List (List ℕ)
+  mine = spelled h.head ∷ h.these
+
+  end_is : (file : List ℕ) → file ≡ blocks (mine ++ [] ∷ []) ++ 0 ∷ [] → length file ≡ s.segment.reach + 38
+  end_is file is =
+      let st = h.stands.staged in
+      let one : length (blocks ([] ∷ [])) ≡ 37 = omega (arith, length-append (body []) [], length-append (sha256 []) [], length-sha256 []) in
+      omega (
+        arith,
+        ap length is,
+        length-append (blocks (mine ++ [] ∷ [])) (0 ∷ []),
+        ap length (blocks-append mine ([] ∷ [])),
+        length-append (blocks mine) (blocks ([] ∷ [])),
+        one,
+        st.ends,
+        st.reaches,
+      )
+
+  ended_so : (c : Files) → c s.segment.number ≡ blocks (mine ++ [] ∷ []) ++ 0 ∷ [] → IsEnded h.head h.these (c h.head.number)
+  ended_so c is = record {
+    wide = h.wide;
+    some = h.some;
+    short = short-append mine ([] ∷ []) h.stands.staged.short (empty_short, tt);
+    whole = ap (λ (k : ℕ). c k) h.number ∙ is;
+  }
+
+  follows_so : (c : Files) → c s.segment.number ≡ blocks (mine ++ [] ∷ []) ++ 0 ∷ []
+      → Follows s.id (h.head.number + 1) (h.head.first + length h.these) (length (c h.head.number)) next.head
+  follows_so c is = record {
+    its_id = next.id;
+    its_number = omega (arith, next.number, h.number);
+    its_first = omega (arith, next.first, h.first, h.count);
+    its_before = next.before ∙ sym (end_is (c h.head.number) (ap (λ (k : ℕ). c k) h.number ∙ is));
+  }
+
+  all_before : (c : Files) → ((m : ℕ) → m < h.head.number → c m ≡ old m) → c s.segment.number ≡ blocks (mine ++ [] ∷ []) ++ 0 ∷ []
+      → AreBefore s.id c next.head from.number from.first from.before (h.front ++ h.these)
+  all_before c same is =
+      snoc s.id c h.head next.head from.number from.first from.before h.front h.these
+      (before_same s.id old c h.head from.number from.first from.before h.front same h.ended) (ended_so c is) (follows_so c is)
+
+  short_batch : AreShort batch → AreShort (spelled next.head ∷ [])
+  short_batch fits = subst AreShort next.batch_is fits
+
+  number_is : h.head.number + 1 ≡ s.segment.number + 1
+  number_is = ap (λ (k : ℕ). k + 1) h.number
+
+  -- while it goes on, a crash leaves the same log
+  pub log_then : (c : Files) → Turns s.segment.number mine batch old c → IsLog s.id c from records
+  log_then c turns = subst (λ l. IsLog s.id c from l) (sym h.all) (by turns.either)
+    where
+      below : (m : ℕ) → m < h.head.number → c m ≡ old m
+      below m lt = turns.others m (λ is. omega (arith, is, h.number, lt)) (λ is. omega (arith, is, h.number, lt))
+
+      above : (m : ℕ) → h.head.number + 1 < m → c m ≡ []
+      above m lt = turns.others m (λ is. omega (arith, is, h.number, lt)) (λ is. omega (arith, is, h.number, lt)) ∙ h.none_above m (omega (arith, lt))
+
+      unborn : (file : List ℕ) → HasEither [] batch file → IsUnborn file
+      unborn file (inl has) = record { records = []; has = has; at_most = omega arith }
+      unborn file (inr has) = record { records = batch; has = has; at_most = omega (arith, ap length next.batch_is) }
+
+      there : from.number ≤ next.head.oldest
+      there = omega (arith, h.there, h.oldest, next.its_oldest, le)
+
+      by : (Has mine (c s.segment.number) × HasEither [] batch (c (s.segment.number + 1)))
+          ⊎ ((c s.segment.number ≡ blocks (mine ++ [] ∷ []) ++ 0 ∷ []) × (c (s.segment.number + 1) ≡ blocks batch ++ 0 ∷ []) × AreShort batch) → IsLog s.id c from (h.front ++ h.these)
+      by (inl first) =
+          log_with seen may_leave s from records [] h c h.these
+          (record { wide = h.wide; some = h.some; has = subst (λ n. Has mine (c n)) (sym h.number) first.0 }) below
+          (subst (λ n. IsUnborn (c n)) (sym number_is) (unborn (c (s.segment.number + 1)) first.1)) above
+      by (inr second) =
+          let number : next.head.number ≡ h.head.number + 1 = omega (arith, next.number, h.number) in
+          let file : c next.head.number ≡ blocks (spelled next.head ∷ []) ++ 0 ∷ [] =
+          ap (λ (k : ℕ). c k) next.number ∙ second.1 ∙ ap (λ (l : List (List ℕ)). blocks l ++ 0 ∷ []) next.batch_is in
+          record {
+            head = next.head;
+            front = h.front ++ h.these;
+            these = [];
+            ended = all_before c below second.0;
+            last = record { wide = next.wide; some = tt; has = has_shut (spelled next.head ∷ []) 0 [] (c next.head.number) (omega arith) (short_batch second.2) file };
+            all = sym (append-nil (h.front ++ h.these));
+            there = there;
+            none_below = λ m lt. below m (omega (arith, lt, from_le seen may_leave s from records [] h)) ∙ h.none_below m lt;
+            unborn = no_file (c (next.head.number + 1)) (above (next.head.number + 1) (omega (arith, number)));
+            none_above = λ m lt. above m (omega (arith, lt, number));
+          }
+
+  -- and then the log holds the same
+  pub holds_then : (t : LogState D) → Stands seen may_leave t.segment batch [] → t.segment.number ≡ s.segment.number + 1
+      → seen t.segment.disk s.segment.number ≡ blocks (mine ++ [] ∷ []) ++ 0 ∷ []
+      → ((m : ℕ) → m ≢ s.segment.number → m ≢ s.segment.number + 1 → seen t.segment.disk m ≡ old m) → t.id ≡ s.id → t.first ≡ s.first + s.count → t.count ≡ 0
+      → t.oldest ≡ oldest → t.least ≡ s.least → Holds seen may_leave t from records []
+  holds_then t stands number file same id first count old_is least =
+      let c = seen t.segment.disk in
+      let below : (m : ℕ) → m < h.head.number → c m ≡ old m = λ m lt. same m (λ is. omega (arith, is, h.number, lt)) (λ is. omega (arith, is, h.number, lt)) in
+      record {
+        head = next.head;
+        front = h.front ++ h.these;
+        these = [];
+        ended = subst (λ k. AreBefore k c next.head from.number from.first from.before (h.front ++ h.these)) (sym id) (all_before c below file);
+        wide = next.wide;
+        some = tt;
+        fresh = tt;
+        stands = subst (λ l. Stands seen may_leave t.segment l []) next.batch_is stands;
+        number = next.number ∙ sym number;
+        all = h.all ∙ sym (append-nil (h.front ++ h.these));
+        there = omega (arith, h.there, h.oldest, next.its_oldest, le);
+        none_below = λ m lt. below m (omega (arith, lt, from_le seen may_leave s from records [] h)) ∙ h.none_below m lt;
+        none_above = λ m lt. same m (λ is. omega (arith, is, next.number, lt)) (λ is. omega (arith, is, next.number, lt))
+            ∙ h.none_above m (omega (arith, lt, next.number, h.number));
+        first = next.first ∙ sym first;
+        count = count;
+        oldest = next.its_oldest ∙ sym old_is;
+        least = h.least ∙ sym least;
+      }
+
+-- ---- the two files of a segment
+
+pub moved_staged : {D : Type 0} (seen : D → Files) (may_leave : D → Files → Type 0) (old new : D) (number end reach : ℕ) (these pending : List (List ℕ))
+    → IsStaged seen may_leave old number end reach these pending → seen new number ≡ seen old number → Only (seen new) (may_leave new)
+    → IsStaged seen may_leave new number end reach these pending
+moved_staged seen may_leave was new number end reach these pending st same only = record {
+  file = same ∙ st.file;
+  short = st.short;
+  fits = st.fits;
+  ends = st.ends;
+  reaches = st.reaches;
+  durable = only;
+}
+
+pub apart : (n : ℕ) → n ≢ n + 1
+apart n is = omega (arith, is)
+
+pub with_end : {D : Type 0} (seen : D → Files) (may_leave : D → Files → Type 0) (s : SegmentState D) (these end : List (List ℕ)) → end ≡ [] ∷ []
+    → Stands seen may_leave s (these ++ []) end → Stands seen may_leave s these ([] ∷ [])
+with_end seen may_leave s these end is st =
+    subst (λ l. Stands seen may_leave s l ([] ∷ [])) (append-nil these) (subst (λ l. Stands seen may_leave s (these ++ []) l) is st)
+
+pub closes_at : (k number : ℕ) (these next : List (List ℕ)) (old mid : Files) (fits : AreShort next) (begun : mid (number + 1) ≡ staged next [])
+    (same : (m : ℕ) → m ≢ number + 1 → mid m ≡ old m) (last c : Files) → k ≡ number → ((m : ℕ) → m ≢ number → last m ≡ mid m)
+    → Changes k (HasOrIs these (these ++ [] ∷ [])) last c → Turns number these next old c
+closes_at k number these next old mid fits begun same last c is others changes =
+    closes number these next old mid fits begun same last c others (subst (λ n. Changes n (HasOrIs these (these ++ [] ∷ [])) last c) is changes)
+
+pub has_turned : {D : Type 0} (seen : D → Files) (may_leave : D → Files → Type 0) (old new : SegmentState D) (begun closed : D) (k size : ℕ) (these next : List (List ℕ))
+    → IsStaged seen may_leave begun (old.number + 1) size size next [] → ((m : ℕ) → m ≢ old.number + 1 → seen begun m ≡ seen old.disk m)
+    → ((m : ℕ) → m ≢ old.number → seen closed m ≡ seen begun m) → ((m : ℕ) → m ≢ k → seen new.disk m ≡ seen closed m)
+    → k ≡ old.number → new.number ≡ k → Stands seen may_leave new (these ++ [] ∷ []) [] → HasTurned seen may_leave old new size these next
+has_turned seen may_leave old new begun closed k size these next staged_next first second third kept number stands =
+    let far : old.number + 1 ≢ old.number = λ is. omega (arith, is) in
+    let last : (m : ℕ) → m ≢ old.number → seen new.disk m ≡ seen closed m = λ m one. third m (λ is. one (is ∙ kept)) in
+    record {
+      unbroken = stands.unbroken;
+      begun = at_next seen may_leave begun new.disk (old.number + 1) size next staged_next
+          (last (old.number + 1) far ∙ second (old.number + 1) far) stands.staged.durable;
+      ended = record {
+        file = ap (λ (n : ℕ). seen new.disk n) (sym (number ∙ kept)) ∙ stands.staged.file;
+        others = λ m one two. last m one ∙ second m one ∙ first m two;
+      };
+    }
+
+pub right_side : (id other : ℕ) (from : Origin) (these all : List (List ℕ)) (c : Files) → other ≡ id → IsLog other c from all → IsEither id from these all c
+right_side id other from these all c is log = inr (subst (λ n. IsLog n c from all) is log)
+
+pub next_given : {D : Type 0} (s v : LogState D) (oldest : ℕ) (batch given : List (List ℕ)) → v ≡ s → given ≡ batch → IsNext s oldest batch → IsNext v oldest given
+next_given s v oldest batch given is same next = subst (λ t. IsNext t oldest given) (sym is) (subst (λ b. IsNext s oldest b) (sym same) next)
+
+pub nothing_next : {D : Type 0} (seen : D → Files) (may_leave : D → Files → Type 0) (s : LogState D) (from : Origin) (records pending : List (List ℕ))
+    → Holds seen may_leave s from records pending → seen s.segment.disk (s.segment.number + 1) ≡ []
+nothing_next seen may_leave s from records pending h = h.none_above (s.segment.number + 1) (omega (arith, h.number))
+
+pub holds_as : {D : Type 0} (seen : D → Files) (may_leave : D → Files → Type 0) (s v : LogState D) (from : Origin) (records pending : List (List ℕ)) → v ≡ s
+    → Holds seen may_leave s from records pending → Holds seen may_leave v from records pending
+holds_as seen may_leave s v from records pending is h = subst (λ t. Holds seen may_leave t from records pending) (sym is) h
+
+pub leaves_as : {D : Type 0} (moment : D → ℕ) (left_since : D → ℕ → Files → Type 0) (old : D) (s v : LogState D) (P : Files → Type 0) → v ≡ s
+    → LeavesOnly moment left_since old s.segment.disk P → LeavesOnly moment left_since old v.segment.disk P
+leaves_as moment left_since old s v P is run = subst (λ t. LeavesOnly moment left_since old t.segment.disk P) (sym is) run
+
+pub leaves_at : {D : Type 0} (moment : D → ℕ) (left_since : D → ℕ → Files → Type 0) (old now new : D) (P : Files → Type 0) → new ≡ now
+    → LeavesOnly moment left_since old now P → LeavesOnly moment left_since old new P
+leaves_at moment left_since old now new P is run = subst (λ d. LeavesOnly moment left_since old d P) (sym is) run

@@ -1,0 +1,42 @@
+use Rattle.std.proofs.Common.{◌≡◌, ◌≤◌, [], ◌∙◌, ap, refl, arith}
+use Rattle.gw_log.specs.State.{records_of}
+use Rattle.gw_log.specs.Chain.{LogState}
+use Rattle.gw_log.proofs.Moments.{weaker, joined}
+use Rattle.gw_log.proofs.Turning.{log_then, holds_then, right_side, next_given, nothing_next, holds_as, leaves_as}
+use Rattle.gw_log.proofs.log.Log.go_on.Goals as goal
+
+pub returns-in_err-follow-clause-any_moment : goal.returns-in_err-follow-clause-any_moment
+returns-in_err-follow-clause-any_moment g c =
+    let same = c.self.view_is ∙ c.settle.ensures.kept in
+    let id : c.self.inside.id ≡ c.args.self.now.id = ap (λ (s : LogState g.row.D.Denot). s.id) same in
+    let le : c.self.inside.oldest ≤ c.args.oldest = omega (arith, c.requires, ap (λ (s : LogState g.row.D.Denot). s.oldest) same) in
+    let next = next_given _ _ _ _ _ c.self.view_is (ap records_of c.deref.ensures.value) c.in_ok-next.ensures.ok in
+    λ from these those h.
+    let now = holds_as _ _ _ _ from _ [] c.self.view_is (c.in_ok-settle.ensures.ok from these those h) in
+    let first = leaves_as _ _ _ _ _ _ c.self.view_is (c.settle.ensures.any_moment from these those h) in
+    joined _ _ _ _ _ _ first (weaker _ _ _ _ _ _ (λ f turns. right_side _ _ _ _ _ f id (log_then _ _ _ _ _ now _ _ next le f turns))
+    (c.follow.ensures.any_moment _ now.stands (nothing_next _ _ _ _ _ _ now)))
+
+pub returns-clause-any_moment : goal.returns-clause-any_moment
+returns-clause-any_moment g c =
+    let same = c.self.view_is ∙ c.settle.ensures.kept in
+    let id : c.self.inside.id ≡ c.args.self.now.id = ap (λ (s : LogState g.row.D.Denot). s.id) same in
+    let le : c.self.inside.oldest ≤ c.args.oldest = omega (arith, c.requires, ap (λ (s : LogState g.row.D.Denot). s.oldest) same) in
+    let next = next_given _ _ _ _ _ c.self.view_is (ap records_of c.deref.ensures.value) c.in_ok-next.ensures.ok in
+    λ from these those h.
+    let now = holds_as _ _ _ _ from _ [] c.self.view_is (c.in_ok-settle.ensures.ok from these those h) in
+    let first = leaves_as _ _ _ _ _ _ c.self.view_is (c.settle.ensures.any_moment from these those h) in
+    joined _ _ _ _ _ _ first (weaker _ _ _ _ _ _ (λ f turns. right_side _ _ _ _ _ f id (log_then _ _ _ _ _ now _ _ next le f turns))
+    (c.follow.ensures.any_moment _ now.stands (nothing_next _ _ _ _ _ _ now)))
+
+pub returns-clause-ok : goal.returns-clause-ok
+returns-clause-ok g c =
+    let same = c.self.view_is ∙ c.settle.ensures.kept in
+    let id : c.self.inside.id ≡ c.args.self.now.id = ap (λ (s : LogState g.row.D.Denot). s.id) same in
+    let le : c.self.inside.oldest ≤ c.args.oldest = omega (arith, c.requires, ap (λ (s : LogState g.row.D.Denot). s.oldest) same) in
+    let next = next_given _ _ _ _ _ c.self.view_is (ap records_of c.deref.ensures.value) c.in_ok-next.ensures.ok in
+    λ from these those h.
+    let now = holds_as _ _ _ _ from _ [] c.self.view_is (c.in_ok-settle.ensures.ok from these those h) in
+    let none = nothing_next _ _ _ _ _ _ now in
+    let ended = c.in_ok-follow.ensures.ended _ now.stands none in
+    holds_then _ _ _ _ _ now _ _ next le _ (c.in_ok-follow.ensures.stands _ now.stands none) c.in_ok-follow.ensures.number ended.file ended.others refl refl refl refl refl

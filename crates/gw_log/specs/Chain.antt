@@ -1,0 +1,144 @@
+-- A log over the files of a folder: each says of which log it is, its number, how many records stand before it, and how long its predecessor is.
+use Rattle.std.specs.Prelude.{◌≡◌, ◌≢◌, ◌⊎◌, ℕ, ◌+◌, ◌<◌, ◌≤◌, ◌^◌, List, [], ◌∷◌, ◌++◌, length}
+use Rattle.std.specs.Int.{w64, to_be_bytes}
+use Rattle.std.specs.List.{AllByRecursion}
+use Rattle.gw_log.specs.Disk.{Files}
+use Rattle.gw_log.specs.File.{blocks, AreShort, Has}
+use Rattle.gw_log.specs.State.{SegmentState, Stands}
+
+-- What the first record of each file says
+pub record Head : Type 0 where
+  -- the file's own number
+  pub number : ℕ
+  -- how many records stand in the log before this file
+  pub first : ℕ
+  -- how many bytes the file before this one has
+  pub before : ℕ
+  -- files of a number below this one may be gone
+  pub oldest : ℕ
+  -- the log's own number
+  pub id : ℕ
+  -- bytes that a start needs
+  pub checkpoint : List ℕ
+
+-- five numbers of eight bytes, and the checkpoint
+abbrev pub spelled : Head → List ℕ
+spelled h = to_be_bytes w64 h.number ++ to_be_bytes w64 h.first ++ to_be_bytes w64 h.before ++ to_be_bytes w64 h.oldest ++ to_be_bytes w64 h.id ++ h.checkpoint
+
+-- each number fits its eight bytes
+pub record IsWide (h : Head) : Type 0 where
+  pub its_number : h.number < 2 ^ 64
+  pub its_first : h.first < 2 ^ 64
+  pub its_before : h.before < 2 ^ 64
+  pub its_oldest : h.oldest < 2 ^ 64
+  pub its_id : h.id < 2 ^ 64
+
+-- No record is empty: an empty one ends a file
+abbrev pub AreSome : List (List ℕ) → Type 0
+AreSome records = AllByRecursion (λ r. r ≢ []) records
+
+-- the records of a file that is ended
+abbrev pub ended : Head → List (List ℕ) → List (List ℕ)
+ended h records = spelled h ∷ records ++ [] ∷ []
+
+-- The file has this head, and these records, and is ended for good
+pub record IsEnded (h : Head) (records : List (List ℕ)) (file : List ℕ) : Type 0 where
+  pub wide : IsWide h
+  pub some : AreSome records
+  pub short : AreShort (ended h records)
+  pub whole : file ≡ blocks (ended h records) ++ 0 ∷ []
+
+-- the head is that of the file of this number, which follows on so many records and so long a file
+pub record Follows (id number first before : ℕ) (h : Head) : Type 0 where
+  pub its_id : h.id ≡ id
+  pub its_number : h.number ≡ number
+  pub its_first : h.first ≡ first
+  pub its_before : h.before ≡ before
+
+-- The files from a number on, up to the one before the file with the last head, are ended, and have these records: each follows on the one before it
+pub data AreBefore (id : ℕ) (files : Files) (last : Head) : (number first before : ℕ) → List (List ℕ) → Type 0 where
+  none : (number first before : ℕ) → Follows id number first before last → AreBefore id files last number first before []
+  more : (number first before : ℕ) (h : Head) (these those : List (List ℕ)) → Follows id number first before h → IsEnded h these (files number)
+      → AreBefore id files last (number + 1) (first + length these) (length (files number)) those → AreBefore id files last number first before (these ++ those)
+
+-- A file that a crash may have left unborn: it has a head at most
+pub record IsUnborn (file : List ℕ) : Type 0 where
+  pub records : List (List ℕ)
+  pub has : Has records file
+  pub at_most : length records ≤ 1
+
+-- where a log begins: the number of its first file, how many records stood before it, and how long the file before it was
+pub record Origin : Type 0 where
+  pub number : ℕ
+  pub first : ℕ
+  pub before : ℕ
+
+-- the last file: it has this head and these records, and isn't ended
+pub record IsLast (h : Head) (records : List (List ℕ)) (file : List ℕ) : Type 0 where
+  pub wide : IsWide h
+  pub some : AreSome records
+  pub has : Has (spelled h ∷ records) file
+
+-- The files of a folder are the log of this number from an origin on, with these records. No file is missing, but for those that may be gone
+pub record IsLog (id : ℕ) (files : Files) (from : Origin) (records : List (List ℕ)) : Type 0 where
+  pub head : Head
+  pub front : List (List ℕ)
+  pub these : List (List ℕ)
+  pub ended : AreBefore id files head from.number from.first from.before front
+  pub last : IsLast head these (files head.number)
+  pub all : records ≡ front ++ these
+  pub there : from.number ≤ head.oldest
+  pub none_below : (number : ℕ) → number < from.number → files number ≡ []
+  pub unborn : IsUnborn (files (head.number + 1))
+  pub none_above : (number : ℕ) → head.number + 1 < number → files number ≡ []
+
+-- A log that is open: the segment over its last file, the log's number, how many records stand before that file and in it,
+-- below which number files may be gone, and the least number of one that is there
+pub record LogState (D : Type 0) : Type 0 where
+  pub segment : SegmentState D
+  pub id : ℕ
+  pub first : ℕ
+  pub count : ℕ
+  pub oldest : ℕ
+  pub least : ℕ
+
+-- The log has these records, on the disk whatever crash comes, and these pending
+pub record Holds {D : Type 0} (seen : D → Files) (may_leave : D → Files → Type 0) (s : LogState D) (from : Origin) (records pending : List (List ℕ)) : Type 0 where
+  pub head : Head
+  pub front : List (List ℕ)
+  pub these : List (List ℕ)
+  pub ended : AreBefore s.id (seen s.segment.disk) head from.number from.first from.before front
+  pub wide : IsWide head
+  pub some : AreSome these
+  pub fresh : AreSome pending
+  pub stands : Stands seen may_leave s.segment (spelled head ∷ these) pending
+  pub number : head.number ≡ s.segment.number
+  pub all : records ≡ front ++ these
+  pub there : from.number ≤ head.oldest
+  pub none_below : (number : ℕ) → number < from.number → seen s.segment.disk number ≡ []
+  pub none_above : (number : ℕ) → head.number < number → seen s.segment.disk number ≡ []
+  pub first : head.first ≡ s.first
+  pub count : s.count ≡ length these + length pending
+  pub oldest : head.oldest ≡ s.oldest
+  pub least : from.number ≡ s.least
+
+-- a log of these records or of those
+abbrev pub IsEither : ℕ → Origin → List (List ℕ) → List (List ℕ) → Files → Type 0
+IsEither id from these those files = IsLog id files from these ⊎ IsLog id files from those
+
+-- the head of a log's first file, and where a log begins that is new
+abbrev pub first_head : ℕ → List ℕ → Head
+first_head id checkpoint = record { number = 1; first = 0; before = 0; oldest = 1; id = id; checkpoint = checkpoint }
+
+abbrev pub beginning : Origin
+beginning = record { number = 1; first = 0; before = 0 }
+
+-- the file begins with a head of this log and number, which follows on so long a file
+pub record HasHead (id number before : ℕ) (file : List ℕ) : Type 0 where
+  pub head : Head
+  pub records : List (List ℕ)
+  pub wide : IsWide head
+  pub has : Has (spelled head ∷ records) file
+  pub its_id : head.id ≡ id
+  pub its_number : head.number ≡ number
+  pub its_before : head.before ≡ before

@@ -1,0 +1,68 @@
+-- What a disk is: a folder of numbered files, what its calls do to them, and what a crash may leave between two syncs.
+use Rattle.std.specs.Prelude.{◌≡◌, ◌≢◌, ◌⊎◌, ◌<◌, ◌≤◌, ◌+◌, ℕ, min, max, List, [], ◌++◌, length, take, drop, Result, IsErrOf}
+use Rattle.gw_log.specs.declared.disk.DiskFault.{DiskFault}
+use Rattle.gw_log.specs.declared.disk.DiskFault.TheVariants.{Failed}
+
+-- The bytes of each file, by its number. A number without a file counts as one whose file has no byte.
+abbrev pub Files : Type 0
+Files = ℕ → List ℕ
+
+-- the file of this number is one with P, and the others are as they were
+pub record Changes (number : ℕ) (P : List ℕ → Type 0) (old new : Files) : Type 0 where
+  pub here : P (new number)
+  pub others : (other : ℕ) → other ≢ number → new other ≡ old other
+
+-- new is old with these bytes at this offset
+abbrev pub IsWritten : ℕ → List ℕ → List ℕ → List ℕ → Type 0
+IsWritten at bytes old new = new ≡ take at old ++ bytes ++ drop (at + length bytes) old
+
+-- A torn write of n bytes, or one that did not happen: any bytes in the range and past the old end, the same elsewhere
+pub record Torn (at n : ℕ) (old new : List ℕ) : Type 0 where
+  pub before : take at new ≡ take at old
+  pub after : drop (at + n) new ≡ drop (at + n) old
+  pub no_shorter : length old ≤ length new
+  pub no_longer : length new ≤ max (length old) (at + n)
+
+-- a cut to n bytes that a crash may stop, or one that did not happen: some length between
+pub record Cut (n : ℕ) (old new : List ℕ) : Type 0 where
+  pub no_shorter : min n (length old) ≤ length new
+  pub front : take (length new) old ≡ new
+
+-- a file that was being removed: it is there, or not
+abbrev pub IsGone : List ℕ → List ℕ → Type 0
+IsGone old new = (new ≡ old) ⊎ (new ≡ [])
+
+-- one of these outcomes of a crash, after a step on one file
+pub record After (number : ℕ) (step : List ℕ → List ℕ → Type 0) (outcomes : Files → Type 0) (c : Files) : Type 0 where
+  pub was : Files
+  pub could : outcomes was
+  pub moves : Changes number (step (was number)) was c
+
+-- each new outcome of a crash is an old outcome after a step on one file
+abbrev pub Follows : ℕ → (List ℕ → List ℕ → Type 0) → (Files → Type 0) → (Files → Type 0) → Type 0
+Follows number step old new = (c : Files) → new c → After number step old c
+
+-- whatever crash comes, it leaves these files as they are
+abbrev pub Only : Files → (Files → Type 0) → Type 0
+Only files outcomes = (c : Files) → outcomes c → (number : ℕ) → c number ≡ files number
+
+-- Time goes on: a crash since t might have left what it might have left before, or what it may leave now
+pub record Elapses {D : Type 0} (moment : D → ℕ) (left_since : D → ℕ → Files → Type 0) (may_leave : D → Files → Type 0) (old new : D) : Type 0 where
+  pub later : moment old ≤ moment new
+  pub nothing_else : (t : ℕ) (c : Files) → t ≤ moment old → left_since new t c → left_since old t c ⊎ may_leave new c
+
+-- A crash at any moment since old leaves files that have P
+pub record LeavesOnly {D : Type 0} (moment : D → ℕ) (left_since : D → ℕ → Files → Type 0) (old new : D) (P : Files → Type 0) : Type 0 where
+  pub later : moment old ≤ moment new
+  pub each : (c : Files) → left_since new (moment old) c → P c
+  -- for a run that began earlier
+  pub before : (t : ℕ) (c : Files) → t ≤ moment old → left_since new t c → left_since old t c ⊎ P c
+
+-- no file has a byte but from the first number to the last
+abbrev pub AreWithin : (first last : ℕ) → Files → Type 0
+AreWithin first last files = (number : ℕ) → files number ≢ [] → (first ≤ number) × (number ≤ last)
+
+-- `Failed` is reported only where the disk has failed since
+pub record HasCause {T : Type 0} (before now : ℕ) (result : Result T DiskFault) : Type 0 where
+  pub later : before ≤ now
+  pub failed : IsErrOf result Failed → before < now

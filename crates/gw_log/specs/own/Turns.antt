@@ -1,0 +1,35 @@
+-- How a log goes on to its next file.
+use Rattle.std.specs.Prelude.{◌≡◌, ◌≢◌, ◌⊎◌, false, ℕ, ◌+◌, List, [], ◌∷◌, ◌++◌}
+use Rattle.gw_log.specs.Disk.{Files}
+use Rattle.gw_log.specs.File.{blocks, AreShort, Has, HasEither}
+use Rattle.gw_log.specs.State.{SegmentState, IsStaged}
+use Rattle.gw_log.specs.Chain.{Head, spelled, IsWide, LogState}
+
+-- The file of this number is being ended, and the next one begun with these records. Either the first isn't ended yet and the second has none of them or all,
+-- or the first is ended and the second has them all
+pub record Turns (number : ℕ) (these next : List (List ℕ)) (old c : Files) : Type 0 where
+  pub others : (other : ℕ) → other ≢ number → other ≢ number + 1 → c other ≡ old other
+  pub either : (Has these (c number) × HasEither [] next (c (number + 1)))
+      ⊎ ((c number ≡ blocks (these ++ [] ∷ []) ++ 0 ∷ []) × (c (number + 1) ≡ blocks next ++ 0 ∷ []) × AreShort next)
+
+-- the file of this number was ended, and no other has changed but the next
+pub record HasEnded (number : ℕ) (these : List (List ℕ)) (old new : Files) : Type 0 where
+  pub file : new number ≡ blocks (these ++ [] ∷ []) ++ 0 ∷ []
+  pub others : (other : ℕ) → other ≢ number → other ≢ number + 1 → new other ≡ old other
+
+-- it was, and the next one has these records, and is so long
+pub record HasTurned {D : Type 0} (seen : D → Files) (may_leave : D → Files → Type 0) (old new : SegmentState D) (size : ℕ) (these next : List (List ℕ)) : Type 0 where
+  pub unbroken : new.broken ≡ false
+  pub begun : IsStaged seen may_leave new.disk (old.number + 1) size size next []
+  pub ended : HasEnded old.number these (seen old.disk) (seen new.disk)
+
+-- the head of the file behind that of a log, as a batch
+pub record IsNext {D : Type 0} (s : LogState D) (oldest : ℕ) (batch : List (List ℕ)) : Type 0 where
+  pub head : Head
+  pub batch_is : batch ≡ spelled head ∷ []
+  pub wide : IsWide head
+  pub number : head.number ≡ s.segment.number + 1
+  pub first : head.first ≡ s.first + s.count
+  pub before : head.before ≡ s.segment.reach + 38
+  pub its_oldest : head.oldest ≡ oldest
+  pub id : head.id ≡ s.id

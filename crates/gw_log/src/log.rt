@@ -1,0 +1,281 @@
+//! A log over the files of a folder.
+ghost use Rattle.std.specs.Prelude.{◌≡◌, ◌⊎◌, ◌++◌, ◌<◌, ◌≤◌, ◌^◌, ◌∷◌, [], true, List, ℕ, IsTrue, IfOk, OnOk, OnErr};
+ghost use Rattle.gw_log.specs.Chain.{AreSome, IsWide, Origin, IsEither, Holds, spelled, first_head};
+ghost use Rattle.gw_log.specs.Disk.{Only, LeavesOnly};
+ghost use Rattle.gw_log.specs.State.{records_of};
+
+use crate::disk::Disk;
+use crate::fault::LogFault;
+use crate::head::{Head, seal, spell_head};
+use crate::segment::Segment;
+use crate::writing::BEFORE;
+use std::alloc::Global;
+use std::marker::Model;
+
+/// The most records of a file, of files, and of records before a file.
+const MOST: u64 = 1 << 62;
+
+/// The most bytes of a file that another may follow.
+const LONGEST: usize = 1 << 60;
+
+/// Records in the files of a folder, of which the last is open. They lie on the disk alone.
+#[derive(Drop)]
+pub struct Log<D: Disk> {
+    alloc: Global,
+    segment: Segment<D>,
+    id: u64,
+    first: u64,
+    count: u64,
+    oldest: u64,
+    least: u64,
+}
+
+impl<D: Disk> Model for Log<D> {
+    ghost use Rattle.gw_log.specs.Chain.{LogState};
+
+    ghost Value = { LogState D };
+
+    ghost view = { λ l. record { segment = l.segment; id = l.id; first = l.first; count = l.count; oldest = l.oldest; least = l.least } };
+}
+
+// Whether no record is empty.
+fn are_some(batch: &[Vec<u8>]) -> bool
+    ensures { IsTrue result → AreSome (records_of batch.now) }
+{
+    for bytes in batch {
+        if bytes.is_empty() {
+            return false;
+        }
+    }
+    true
+}
+
+// Whether a batch may be put behind so many records.
+fn test_batch(count: u64, batch: &[Vec<u8>]) -> Result<(), LogFault>
+    ensures room { OnOk result (count < 2 ^ 62) }
+    ensures some { OnOk result (AreSome (records_of batch.now)) }
+{
+    if count >= MOST {
+        return Err(LogFault::Full);
+    }
+    if !are_some(batch) {
+        return Err(LogFault::Empty);
+    }
+    Ok(())
+}
+
+// The head of a log's first file, as a batch. The folder may have no file.
+fn head_alone<D: Disk>(
+    alloc: Global,
+    disk: &mut D,
+    id: u64,
+    checkpoint: &[u8],
+) -> Result<Vec<Vec<u8>>, LogFault>
+    ensures head { IfOk result (λ out. records_of out.items ≡ spelled (first_head id checkpoint.now) ∷ []) }
+    ensures wide { OnOk result (IsWide (first_head id checkpoint.now)) }
+    ensures none { D.honest disk.new → OnOk result ((number : ℕ) → D.seen disk.old number ≡ []) }
+    ensures seen { D.seen disk.new ≡ D.seen disk.old }
+    ensures durable { Only (D.seen disk.old) (D.may_leave disk.old) →
+        Only (D.seen disk.new) (D.may_leave disk.new) }
+    ensures back { D.honest disk.new → D.honest disk.old }
+{
+    let (first, last) = disk.ends()?;
+    if first <= last {
+        return Err(LogFault::Taken);
+    }
+    let head = Head {
+        number: 1,
+        first: 0,
+        before: 0,
+        oldest: 1,
+        id,
+        checkpoint,
+    };
+    Ok(spell_head(alloc, &head)?)
+}
+
+impl<D: Disk> Log<D> {
+    ghost use Rattle.std.specs.Prelude.{◌≡◌, ◌⊎◌, ◌++◌, ◌+◌, ◌-◌, ◌<◌, ◌≤◌, ◌^◌, min, [], true, List, ℕ, IfOk, OnOk, OnErr};
+    ghost use Rattle.gw_log.specs.Chain.{Origin, IsEither, Holds, beginning};
+    ghost use Rattle.gw_log.specs.own.Turns.{IsNext};
+    ghost use Rattle.gw_log.specs.Disk.{Only, LeavesOnly};
+    ghost use Rattle.gw_log.specs.State.{records_of};
+
+    /// A new log of this number, in a folder without a file. Its first head has this checkpoint. After a fault the folder has to be cleared.
+    pub fn create(
+        alloc: Global,
+        disk: D,
+        id: u64,
+        checkpoint: &[u8],
+    ) -> Result<Log<D>, (LogFault, D)>
+        // After a restart, what is read is what is on the disk.
+        requires { Only (D.seen disk) (D.may_leave disk) }
+        ensures ok { IfOk result (λ log.
+            D.honest log.segment.disk → Holds D.seen D.may_leave log beginning [] []) }
+        ensures id { IfOk result (λ log. log.id ≡ id) }
+        ensures back { IfOk result (λ log. D.honest log.segment.disk → D.honest disk) }
+    {
+        let mut disk = disk;
+        let head = match head_alone(alloc, &mut disk, id, checkpoint) {
+            Ok(head) => head,
+            Err(fault) => return Err((fault, disk)),
+        };
+        match Segment::create(alloc, disk, 1, &head) {
+            Err(failed) => Err(failed),
+            Ok(segment) => Ok(Log {
+                alloc,
+                segment,
+                id,
+                first: 0,
+                count: 0,
+                oldest: 1,
+                least: 1,
+            }),
+        }
+    }
+
+    /// Puts a batch behind the others, and brings it to the disk. It counts only once the next batch was put, or the log was settled.
+    pub fn put(&mut self, batch: &[Vec<u8>]) -> Result<(), LogFault>
+        // At `Ok` all that was pending counts, whatever crash comes, and the batch is pending.
+        ensures ok { (from : Origin) (these those : List (List ℕ)) →
+            Holds D.seen D.may_leave self.old from these those →
+            OnOk result (Holds D.seen D.may_leave self.new from (these ++ those) (records_of batch.now)) }
+        ensures err { OnErr result ((self.new ≡ self.old) ⊎ (self.new.segment.broken ≡ true)) }
+
+        // A crash at any moment leaves a log of what counted, or of that with all that was pending.
+        ensures any_moment { (from : Origin) (these those : List (List ℕ)) →
+            Holds D.seen D.may_leave self.old from these those →
+            LeavesOnly D.moment D.left_since self.old.segment.disk self.new.segment.disk
+            (IsEither self.old.id from these (these ++ those)) }
+        ensures back { D.honest self.new.segment.disk → D.honest self.old.segment.disk }
+    {
+        test_batch(self.count, batch)?;
+        self.segment.put(batch)?;
+        self.count += batch.len() as u64;
+        Ok(())
+    }
+
+    /// Brings all that is pending to the disk, so that it counts.
+    pub fn settle(&mut self) -> Result<(), LogFault>
+        ensures ok { (from : Origin) (these those : List (List ℕ)) →
+            Holds D.seen D.may_leave self.old from these those →
+            OnOk result (Holds D.seen D.may_leave self.new from (these ++ those) []) }
+        ensures err { OnErr result (self.new.segment.broken ≡ true) }
+        ensures any_moment { (from : Origin) (these those : List (List ℕ)) →
+            Holds D.seen D.may_leave self.old from these those →
+            LeavesOnly D.moment D.left_since self.old.segment.disk self.new.segment.disk
+            (IsEither self.old.id from these (these ++ those)) }
+        ensures kept { self.new ≡ record self.old { segment = self.new.segment } }
+        ensures back { D.honest self.new.segment.disk → D.honest self.old.segment.disk }
+    {
+        self.segment.settle()?;
+        Ok(())
+    }
+
+    // The head of the file behind the last one, as a batch.
+    fn next_head(&self, oldest: u64, checkpoint: &[u8]) -> Result<Vec<Vec<u8>>, LogFault>
+        ensures ok { IfOk result (λ out. IsNext self.now oldest (records_of out.items)) }
+        ensures room { OnOk result (self.now.segment.number < 2 ^ 62) }
+    {
+        let (number, size) = (self.segment.number(), self.segment.size());
+        if number >= MOST || self.first >= MOST || self.count >= 2 * MOST || size >= LONGEST {
+            return Err(LogFault::Full);
+        }
+        let head = Head {
+            number: number + 1,
+            first: self.first + self.count,
+            before: (size + BEFORE + 1) as u64,
+            oldest,
+            id: self.id,
+            checkpoint,
+        };
+        Ok(spell_head(self.alloc, &head)?)
+    }
+
+    // Goes on to the next file.
+    fn go_on(&mut self, oldest: u64, checkpoint: &[u8]) -> Result<(), LogFault>
+        requires { self.old.oldest ≤ oldest }
+        ensures ok { (from : Origin) (these those : List (List ℕ)) →
+            Holds D.seen D.may_leave self.old from these those →
+            OnOk result (Holds D.seen D.may_leave self.new from (these ++ those) []) }
+        ensures any_moment { (from : Origin) (these those : List (List ℕ)) →
+            Holds D.seen D.may_leave self.old from these those →
+            LeavesOnly D.moment D.left_since self.old.segment.disk self.new.segment.disk
+            (IsEither self.old.id from these (these ++ those)) }
+        ensures back { D.honest self.new.segment.disk → D.honest self.old.segment.disk }
+    {
+        self.settle()?;
+        let next = self.next_head(oldest, checkpoint)?;
+        let end = seal(self.alloc)?;
+        self.segment.follow(&next, &end)?;
+        self.first += self.count;
+        self.count = 0;
+        self.oldest = oldest;
+        Ok(())
+    }
+
+    /// Ends the last file, once all that is pending counts, and begins the next one, whose head has this checkpoint and says below which number files may go.
+    pub fn begin_next(&mut self, oldest: u64, checkpoint: &[u8]) -> Result<(), LogFault>
+        ensures ok { (from : Origin) (these those : List (List ℕ)) →
+            Holds D.seen D.may_leave self.old from these those →
+            OnOk result (Holds D.seen D.may_leave self.new from (these ++ those) []) }
+        ensures err { OnErr result (self.new.segment.broken ≡ true) }
+        ensures any_moment { (from : Origin) (these those : List (List ℕ)) →
+            Holds D.seen D.may_leave self.old from these those →
+            LeavesOnly D.moment D.left_since self.old.segment.disk self.new.segment.disk
+            (IsEither self.old.id from these (these ++ those)) }
+        ensures back { D.honest self.new.segment.disk → D.honest self.old.segment.disk }
+    {
+        match self.go_on(oldest.max(self.oldest), checkpoint) {
+            Ok(()) => Ok(()),
+            Err(fault) => {
+                self.segment.fail();
+                Err(fault)
+            }
+        }
+    }
+
+    /// How many records stand in the log, with those that are pending.
+    pub fn len(&self) -> u64
+        ensures { result ≡ min (self.now.first + self.now.count) (2 ^ 64 - 1) }
+    {
+        self.first.saturating_add(self.count)
+    }
+
+    /// How many bytes the last file has, but for the gate at its end.
+    pub fn size(&self) -> usize
+        ensures { result ≡ self.now.segment.reach }
+    {
+        self.segment.size()
+    }
+
+    /// How many of them count whatever crash comes.
+    pub fn settled(&self) -> usize
+        ensures { result ≡ self.now.segment.end }
+    {
+        self.segment.settled()
+    }
+
+    /// The number of the last file.
+    pub fn number(&self) -> u64
+        ensures { result ≡ self.now.segment.number }
+    {
+        self.segment.number()
+    }
+
+    /// Gives the disk back.
+    pub fn into_disk(self) -> D
+        ensures { result ≡ self.segment.disk }
+    {
+        let Log {
+            alloc: _,
+            segment,
+            id: _,
+            first: _,
+            count: _,
+            oldest: _,
+            least: _,
+        } = self;
+        segment.into_disk()
+    }
+}

@@ -1,0 +1,98 @@
+//! Reads the records of a segment, from a place on.
+ghost use Rattle.std.specs.Prelude.{◌≡◌, ◌≤◌, ◌<◌, ◌++◌, ◌∷◌, [], List, ℕ, drop, IfOk, IfSome, IfNone, IsErrOf, OnErr};
+ghost use Rattle.gw_log.specs.File.{HasNoRecord};
+ghost use Rattle.gw_log.specs.State.{IsRead};
+
+use crate::disk::Disk;
+use crate::fault::LogFault;
+use crate::reading::record_at;
+use crate::writing::BEFORE;
+use std::alloc::Global;
+use std::marker::Model;
+
+/// Reads the records of one file, each of which is held against its digest. It needs no memory but for one record.
+#[derive(Drop)]
+pub struct Reader<D: Disk> {
+    alloc: Global,
+    disk: D,
+    number: u64,
+    at: usize,
+    upto: usize,
+}
+
+impl<D: Disk> Model for Reader<D> {
+    ghost use Rattle.gw_log.specs.State.{ReaderState};
+
+    ghost Value = { ReaderState D };
+
+    ghost view = { λ r. record { disk = r.disk; number = r.number; at = r.at; upto = r.upto } };
+}
+
+impl<D: Disk> Reader<D> {
+    ghost use Rattle.std.specs.Prelude.{◌≡◌, ◌<◌, ◌≤◌, ◌++◌, ◌∷◌, [], ℕ, List, drop};
+    ghost use Rattle.std.specs.Prelude.{IfOk, IfSome, IfNone, IsErrOf, OnErr};
+    ghost use Rattle.gw_log.specs.File.{HasNoRecord};
+    ghost use Rattle.gw_log.specs.State.{IsRead};
+
+    /// Reads from this offset on, where a record begins, up to another, where one ends.
+    pub fn at(alloc: Global, disk: D, number: u64, at: usize, upto: usize) -> Reader<D>
+        ensures { result ≡ record { disk = disk; number = number; at = at; upto = upto } }
+    {
+        Reader {
+            alloc,
+            disk,
+            number,
+            at,
+            upto,
+        }
+    }
+
+    /// The next record. `None`: there is none before the end that was named.
+    pub fn next(&mut self) -> Result<Option<Vec<u8>>, LogFault>
+        ensures some { D.honest self.new.disk → (before : List (List ℕ)) → IsRead D.seen self.old before →
+            IfOk result (λ found. IfSome found (λ r. IsRead D.seen self.new (before ++ r.items ∷ []))) }
+        ensures none { IfOk result (λ found. IfNone found (self.old.upto ≤ self.old.at)) }
+        ensures damaged { D.honest self.new.disk → (segment at : ℕ) → IsErrOf result (LogFault.Damaged segment at) →
+            HasNoRecord (drop self.old.at (D.seen self.old.disk self.old.number)) }
+        ensures err { OnErr result (self.new.at ≡ self.old.at) }
+        ensures seen { D.seen self.new.disk ≡ D.seen self.old.disk }
+        ensures number { self.new.number ≡ self.old.number }
+        ensures upto { self.new.upto ≡ self.old.upto }
+        ensures back { D.honest self.new.disk → D.honest self.old.disk }
+    {
+        if self.at >= self.upto {
+            return Ok(None);
+        }
+        let record = record_at(self.alloc, &mut self.disk, self.number, self.at)?;
+        self.at = self.at.saturating_add(BEFORE + record.len());
+        Ok(Some(record))
+    }
+
+    /// Goes on to a later end.
+    pub fn go_on(&mut self, upto: usize)
+        ensures { self.new ≡ record self.old { upto = upto } }
+    {
+        self.upto = upto;
+    }
+
+    /// Where the next record begins.
+    pub fn place(&self) -> usize
+        ensures { result ≡ self.now.at }
+    {
+        self.at
+    }
+
+    /// Gives the disk back.
+    pub fn into_disk(self) -> D
+        ensures { result ≡ self.disk }
+    {
+        let Reader {
+            alloc: _,
+            disk,
+            number: _,
+            at: _,
+            upto: _,
+        } = self;
+        disk
+    }
+}
