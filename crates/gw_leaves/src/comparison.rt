@@ -32,6 +32,14 @@ pub(crate) struct Found {
     pub(crate) unrowed: Option<u64>,
 }
 
+/// Texts of a table of the source by their count, and the rows in which they are looked up.
+#[derive(Clone, Copy)]
+struct LookedUp<'a> {
+    count: Count,
+    rows: Option<&'a Rows>,
+    listed: Option<&'a Table>,
+}
+
 // ---- what is asked
 
 /// Whether a length isn't greater, where there is a greatest.
@@ -211,44 +219,34 @@ fn other_of(rows: Option<&Rows>) -> Option<&[u8]>
 // Adds what the rows give for a text, where that is one of the source's table.
 fn add_first(
     lengths: &mut Lengths,
-    count: Count,
     to: Count,
     table: Option<&Table>,
-    rows: Option<&Rows>,
-    listed: Option<&Table>,
+    texts: LookedUp<'_>,
     first: &[u8],
 ) -> Result<(), AllocError>
-    ensures { OnOk result (spec.AddsFirst count to (spec.some_values table.entry) (rows_value rows.entry) (spec.some_values listed.entry) lengths.old.keys lengths.new.keys first.now) }
+    ensures { OnOk result (spec.AddsFirstOf texts.entry to (spec.some_values table.entry) lengths.old.keys lengths.new.keys first.now) }
 {
-    if !is_listed(listed, first) {
+    if !is_listed(texts.listed, first) {
         return Ok(());
     }
-    add(
-        lengths,
-        to,
-        table,
-        measure(count, first),
-        given(Some(rows), first),
-    )?;
+    let size = measure(texts.count, first);
+    add(lengths, to, table, size, given(Some(texts.rows), first))?;
     Ok(())
 }
 
 // Of those of these texts that are in the source's table, by rows.
 fn of_firsts(
     alloc: Global,
-    count: Count,
     to: Count,
     table: Option<&Table>,
-    rows: Option<&Rows>,
-    listed: Option<&Table>,
+    texts: LookedUp<'_>,
     firsts: &[Vec<u8>],
 ) -> Result<Lengths, AllocError>
-    ensures { IfOk result (λ made.
-        spec.AreOfFirsts count to (spec.some_values table.entry) (rows_value rows.entry) (spec.some_values listed.entry) firsts.now made.keys) }
+    ensures { IfOk result (λ made. spec.AreFirstsOf texts.entry to (spec.some_values table.entry) firsts.now made.keys) }
 {
     let mut made = IndexSet::new(alloc);
     for first in firsts {
-        add_first(&mut made, count, to, table, rows, listed, first)?;
+        add_first(&mut made, to, table, texts, first)?;
     }
     Ok(made)
 }
@@ -256,18 +254,16 @@ fn of_firsts(
 // Of the source's table, by rows. Texts that have no row are given the same: the shortest of them stands for all.
 fn of_looked_up(
     alloc: Global,
-    count: Count,
     to: Count,
     table: Option<&Table>,
-    rows: Option<&Rows>,
-    listed: Option<&Table>,
+    texts: LookedUp<'_>,
     values: &[(u64, &[u8])],
 ) -> Result<Lengths, AllocError>
-    requires { spec.IsListing count (spec.some_values listed) values.now }
-    ensures { IfOk result (λ made.
-        spec.AreLookedUp count to (spec.some_values table.entry) (rows_value rows.entry) (spec.some_values listed.entry) made.keys) }
+    requires { spec.IsListing texts.count (spec.some_values texts.listed) values.now }
+    ensures { IfOk result (λ made. spec.AreAllOf texts.entry to (spec.some_values table.entry) made.keys) }
 {
-    let mut made = of_firsts(alloc, count, to, table, rows, listed, firsts_of(rows))?;
+    let rows = texts.rows;
+    let mut made = of_firsts(alloc, to, table, texts, firsts_of(rows))?;
     let Some(size) = first_unrowed(rows, values) else {
         return Ok(made);
     };
@@ -311,8 +307,13 @@ fn lengths_of(
     };
     let count = source.count();
     if let Some(rows) = rows {
-        let there = source.table(listed);
-        return of_looked_up(alloc, count, to, table, rows, there, values);
+        let listed = source.table(listed);
+        let texts = LookedUp {
+            count,
+            rows,
+            listed,
+        };
+        return of_looked_up(alloc, to, table, texts, values);
     }
     match name {
         None => of_values(

@@ -203,7 +203,8 @@ impl<'a> MapContext<'a> {
         listed: &'n [u8],
         len: Option<u32>,
     ) -> bool
-        ensures { result ≡ some_unrowed self.now.source.count len (rows_named self.now.map.tables rows.now) (values_named self.now.source.tables (Some listed.now)) }
+        ensures { result ≡
+            some_unrowed self.now.source.count len (rows_named self.now.map.tables rows.now) (values_named self.now.source.tables (Some listed.now)) }
     {
         let origin: Origin<'n> = (Some(rows), Some(listed));
         let comparison: Comparison<'n> = (origin, None);

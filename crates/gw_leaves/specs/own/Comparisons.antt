@@ -16,7 +16,9 @@ use Rattle.gw_maplang.specs.Shapes as maps
 use Rattle.gw_resolve.specs.Naming.{no_rows}
 use Rattle.gw_leaves.specs.Leaves.{Values, any, listed, is_short, given, given_values, has_no_row}
 use Rattle.gw_leaves.specs.Context.{ContextValue}
+use Rattle.gw_leaves.specs.Texts.{rows_value}
 use Rattle.gw_leaves.specs.declared.comparison.Found.{Found}
+use Rattle.gw_leaves.specs.declared.comparison.LookedUp.{LookedUp}
 
 -- ---- what is read at a place
 
@@ -198,6 +200,16 @@ AreOfRows to values rows lengths = (len most : Option ℕ) → some_length len m
 -- the table of the target, where there is one
 abbrev pub some_values : Option (Bor (List (List ℕ))) → List (List ℕ)
 some_values table = unwrap_or (option_copied table) []
+
+-- the same of texts as the program holds them
+abbrev pub AddsFirstOf : LookedUp → Count → List (List ℕ) → Lengths → Lengths → List ℕ → Type 0
+AddsFirstOf t to values = AddsFirst t.count to values (rows_value t.rows) (some_values t.listed)
+
+abbrev pub AreFirstsOf : LookedUp → Count → List (List ℕ) → List (Vec ℕ) → Lengths → Type 0
+AreFirstsOf t to values = AreOfFirsts t.count to values (rows_value t.rows) (some_values t.listed)
+
+abbrev pub AreAllOf : LookedUp → Count → List (List ℕ) → Lengths → Type 0
+AreAllOf t to values = AreLookedUp t.count to values (rows_value t.rows) (some_values t.listed)
 
 -- ---- what is kept of comparisons
 

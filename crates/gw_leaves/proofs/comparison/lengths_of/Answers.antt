@@ -14,8 +14,8 @@ returns-in_default c =
 pub returns-in-Some-rows : goal.returns-in-Some-rows
 returns-in-Some-rows c =
     of_looked (context_of c.args.source.now c.args.target.now c.args.map.now) c.args.comparison c.count-to.result c.table_named-table.result (option_map rows_value c.looked_up-rows.result) c.count-to.ensures c.table_named-table.ensures
-    c.looked_up-rows.ensures c.count-count.result c.in-Some.listed (some_values c.table-there.result) (rows_value c.in-Some-rows.rows) c.of_looked_up.result c.count-count.ensures c.in-Some.is
-    (ap (λ o. unwrap_or o []) c.table-there.ensures) (ap (option_map rows_value) c.in-Some-rows.is) c.of_looked_up.ensures
+    c.looked_up-rows.ensures c.count-count.result c.in-Some.listed (some_values c.table-listed.result) (rows_value c.in-Some-rows.rows) c.of_looked_up.result c.count-count.ensures c.in-Some.is
+    (ap (λ o. unwrap_or o []) c.table-listed.ensures) (ap (option_map rows_value) c.in-Some-rows.is) c.of_looked_up.ensures
 
 pub returns-in-None : goal.returns-in-None
 returns-in-None c =
