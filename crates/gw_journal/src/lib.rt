@@ -8,7 +8,9 @@ mod desk;
 mod event;
 mod fault;
 mod journal;
+pub mod laws;
 mod storage;
+mod stored;
 
 pub use book::{Front, Naming, Opened};
 pub use desk::{Desk, Done, Job, Receipt, Ticket};
