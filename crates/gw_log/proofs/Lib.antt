@@ -8,3 +8,4 @@ pub mod Sound
 pub mod Logs
 pub mod Turning
 pub mod Placing
+pub mod Retiring

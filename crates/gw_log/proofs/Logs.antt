@@ -1,13 +1,15 @@
 -- What the steps of a call make of a log.
-use Rattle.std.proofs.Common.{◌≡◌, ◌≢◌, inl, inr, ℕ, ◌+◌, ◌<◌, ◌≤◌, List, [], ◌∷◌, ◌++◌, length, refl, sym, ◌∙◌, ap, subst, arith, append_assoc, length-append}
+use Rattle.std.proofs.Common.{◌≡◌, ◌≢◌, inl, inr, ℕ, zero, suc, ◌+◌, ◌<◌, ◌≤◌, List, [], ◌∷◌, ◌++◌, length, refl, sym, ◌∙◌, ap, subst, arith, append_assoc, length-append}
 use Rattle.std.proofs.Common.{get_or, take}
 use Rattle.std.specs.Prelude.{Vec}
 use Rattle.std.specs.declared.alloc.Global.{Global}
 use Rattle.std.proofs.lemmas.List.{take_more, map-append}
 use Rattle.gw_log.specs.Disk.{Files, Changes}
 use Rattle.gw_log.specs.File.{Has, HasEither, HasOrIs}
-use Rattle.gw_log.specs.State.{Stands, records_of}
+use Rattle.std.proofs.Common.{drop}
+use Rattle.gw_log.specs.State.{at_rest, staged, Stands, records_of}
 use Rattle.gw_log.specs.Chain.{Head, spelled, AreSome, IsEnded, AreBefore, none, more, IsUnborn, Origin, IsLast, IsLog, LogState, Holds, IsEither}
+use Rattle.gw_log.proofs.Crash.{has_shut}
 use Rattle.gw_log.proofs.Sound.{or_either, either_old}
 use Rattle.gw_log.proofs.Ends.{short-append}
 
@@ -59,6 +61,16 @@ module _ {D : Type 0} (seen : D → Files) (may_leave : D → Files → Type 0) 
     unborn = unborn;
     none_above = none_above;
   }
+
+  -- nothing has changed
+  pub log_as_is : (c : Files) → ((m : ℕ) → c m ≡ files m) → IsLog s.id c from records
+  log_as_is c same =
+      let st = h.stands.staged in
+      let last : c h.head.number ≡ staged (spelled h.head ∷ h.these) pending = same h.head.number ∙ ap (λ (k : ℕ). files k) h.number ∙ st.file in
+      subst (λ l. IsLog s.id c from l) (sym h.all) (log_with c h.these
+      (record { wide = h.wide; some = h.some; has = has_shut (spelled h.head ∷ h.these) 0 (drop 1 (at_rest pending)) (c h.head.number) (omega arith) st.short last })
+      (λ m lt. same m) (no_file (c (h.head.number + 1)) (same (h.head.number + 1) ∙ h.none_above (h.head.number + 1) (omega arith)))
+      (λ m lt. same m ∙ h.none_above m (omega (arith, lt))))
 
   -- what a crash leaves where the last file alone is in motion
   pub either_of : (c : Files) (P : List ℕ → Type 0) → ((f : List ℕ) → P f → HasEither (spelled h.head ∷ h.these) ((spelled h.head ∷ h.these) ++ pending) f)
@@ -132,3 +144,15 @@ some_more xs i v lt at some so =
     ap records_of (take_more xs i v lt) ∙ map-append (λ (w : Vec ℕ Global). w.items) (take i xs) (get_or xs i v ∷ [])
     ∙ ap (λ (w : Vec ℕ Global). rs ++ w.items ∷ []) (sym at) in
     subst AreSome (sym all) (some-append rs (v.items ∷ []) so (some, tt))
+
+pub some_at : (xs : List (Vec ℕ Global)) (i : ℕ) (v : Vec ℕ Global) → i < length xs → AreSome (records_of xs) → (get_or xs i v).items ≢ []
+some_at [] i v lt some = absurd (omega (arith, lt))
+some_at (x ∷ xs) zero v lt some = some.0
+some_at (x ∷ xs) (suc i) v lt some = some_at xs i v (omega (arith, lt)) some.1
+
+pub not_some : (xs : List (Vec ℕ Global)) (i : ℕ) (v : Vec ℕ Global) → i < length xs → v ≡ get_or xs i v → length v.items ≡ 0 → AreSome (records_of xs) → ⊥
+not_some xs i v lt at empty some = some_at xs i v lt some (ap (λ (w : Vec ℕ Global). w.items) (sym at) ∙ by v.items empty)
+  where
+    by : (l : List ℕ) → length l ≡ 0 → l ≡ []
+    by [] is = refl
+    by (x ∷ l) is = absurd (omega (arith, is))

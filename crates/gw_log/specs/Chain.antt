@@ -48,7 +48,7 @@ pub record IsEnded (h : Head) (records : List (List ℕ)) (file : List ℕ) : Ty
   pub short : AreShort (ended h records)
   pub whole : file ≡ blocks (ended h records) ++ 0 ∷ []
 
--- the head is that of the file of this number, which follows on so many records and so long a file
+-- the head is that of the file of this number: this count of records stands before it, and the file before it has this length
 pub record Follows (id number first before : ℕ) (h : Head) : Type 0 where
   pub its_id : h.id ≡ id
   pub its_number : h.number ≡ number
@@ -142,3 +142,28 @@ pub record HasHead (id number before : ℕ) (file : List ℕ) : Type 0 where
   pub its_id : head.id ≡ id
   pub its_number : head.number ≡ number
   pub its_before : head.before ≡ before
+
+-- A log goes on from its second file: the records of the first are gone
+pub record IsFewer (from : Origin) (records : List (List ℕ)) (to : Origin) (kept : List (List ℕ)) : Type 0 where
+  pub gone : List (List ℕ)
+  pub split : records ≡ gone ++ kept
+  pub number : to.number ≡ from.number + 1
+  pub first : to.first ≡ from.first + length gone
+
+-- the log holds those that are left, each at its place
+pub record HasRetired {D : Type 0} (seen : D → Files) (may_leave : D → Files → Type 0) (s : LogState D) (from : Origin) (records pending : List (List ℕ)) : Type 0 where
+  pub to : Origin
+  pub kept : List (List ℕ)
+  pub fewer : IsFewer from records to kept
+  pub holds : Holds seen may_leave s to kept pending
+
+-- a log of those that are left
+pub record IsShortened (id : ℕ) (from : Origin) (records : List (List ℕ)) (files : Files) : Type 0 where
+  pub to : Origin
+  pub kept : List (List ℕ)
+  pub fewer : IsFewer from records to kept
+  pub log : IsLog id files to kept
+
+-- a log of these records, or of those that are left
+abbrev pub IsLogOrFewer : ℕ → Origin → List (List ℕ) → Files → Type 0
+IsLogOrFewer id from records files = IsLog id files from records ⊎ IsShortened id from records files

@@ -71,7 +71,7 @@ pub trait Disk {
         ensures back { honest self.new → honest self.old }
         ensures cause { HasCause (faults self.old) (faults self.new) result };
 
-    /// So many bytes of a file from an offset on, or as many as there are.
+    /// The bytes of a file from an offset on: this number of them, or as many as there are.
     fn read(
         &mut self,
         alloc: Global,

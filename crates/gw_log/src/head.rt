@@ -1,11 +1,14 @@
 //! The first record of a file, and the last.
-ghost use Rattle.std.specs.Prelude.{◌≡◌, ◌++◌, ◌∷◌, [], IfOk, OnOk, IfSome};
+ghost use Rattle.std.specs.Prelude.{◌≡◌, ◌+◌, ◌<◌, ◌≤◌, ◌++◌, ◌∷◌, [], length, IfOk, OnOk, IfSome, IfNone};
 ghost use Rattle.std.specs.Int.{w64, to_be_bytes};
 ghost use Rattle.gw_log.specs.Chain.{spelled, IsWide};
 ghost use Rattle.gw_log.specs.State.{records_of};
 
 use std::alloc::{AllocError, Global};
 use std::marker::Model;
+
+/// The bytes of a head without a checkpoint.
+const SHORTEST: usize = 40;
 
 /// What the first record of each file says.
 #[derive(Drop)]
@@ -59,28 +62,31 @@ pub(crate) fn seal(alloc: Global) -> Result<Vec<Vec<u8>>, AllocError>
 }
 
 // The number that eight bytes are, and what stands behind them.
-fn number_at(bytes: &[u8]) -> Option<(u64, &[u8])>
-    ensures { IfSome result (λ r. bytes.now ≡ to_be_bytes w64 r.0 ++ r.1.now) }
+fn number_at(bytes: &[u8]) -> (u64, &[u8])
+    requires { 8 ≤ length bytes.now }
+    ensures whole { bytes.now ≡ to_be_bytes w64 result.0 ++ result.1.now }
+    ensures rest { length bytes.now ≡ length result.1.now + 8 }
 {
-    if bytes.len() < 8 {
-        return None;
-    }
     let (front, rest) = bytes.split_at(8);
     let number = u64::from_be_bytes([
         front[0], front[1], front[2], front[3], front[4], front[5], front[6], front[7],
     ]);
-    Some((number, rest))
+    (number, rest)
 }
 
-/// The head that a record spells.
-pub(crate) fn read_head(bytes: &[u8]) -> Option<Head<'_>>
+/// The head that the first record of a file spells. `None`: it has less than forty bytes.
+pub fn read_head(bytes: &[u8]) -> Option<Head<'_>>
     ensures some { IfSome result (λ h. bytes.now ≡ spelled h) }
+    ensures none { IfNone result (length bytes.now < 40) }
 {
-    let (number, rest) = number_at(bytes)?;
-    let (first, rest) = number_at(rest)?;
-    let (before, rest) = number_at(rest)?;
-    let (oldest, rest) = number_at(rest)?;
-    let (id, checkpoint) = number_at(rest)?;
+    if bytes.len() < SHORTEST {
+        return None;
+    }
+    let (number, rest) = number_at(bytes);
+    let (first, rest) = number_at(rest);
+    let (before, rest) = number_at(rest);
+    let (oldest, rest) = number_at(rest);
+    let (id, checkpoint) = number_at(rest);
     Some(Head {
         number,
         first,

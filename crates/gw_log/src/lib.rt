@@ -17,7 +17,7 @@ mod writing;
 
 pub use disk::{Disk, DiskFault};
 pub use fault::LogFault;
-pub use head::Head;
+pub use head::{Head, read_head};
 pub use log::Log;
 pub use reader::Reader;
 pub use recorded::{Calls, Recorded, Start};

@@ -1,5 +1,5 @@
 //! A log over the files of a folder.
-ghost use Rattle.std.specs.Prelude.{◌≡◌, ◌⊎◌, ◌++◌, ◌<◌, ◌≤◌, ◌^◌, ◌∷◌, [], true, List, ℕ, IsTrue, IfOk, OnOk, OnErr};
+ghost use Rattle.std.specs.Prelude.{◌≡◌, ◌⊎◌, ◌++◌, ◌<◌, ◌≤◌, ◌^◌, ◌∷◌, [], true, List, ℕ, IsTrue, IsFalse, IsErrOf, IfOk, OnOk, OnErr};
 ghost use Rattle.gw_log.specs.Chain.{AreSome, IsWide, Origin, IsEither, Holds, spelled, first_head};
 ghost use Rattle.gw_log.specs.Disk.{Only, LeavesOnly};
 ghost use Rattle.gw_log.specs.State.{records_of};
@@ -40,7 +40,8 @@ impl<D: Disk> Model for Log<D> {
 
 // Whether no record is empty.
 fn are_some(batch: &[Vec<u8>]) -> bool
-    ensures { IsTrue result → AreSome (records_of batch.now) }
+    ensures some { IsTrue result → AreSome (records_of batch.now) }
+    ensures empty { IsFalse result → AreSome (records_of batch.now) → ⊥ }
 {
     for bytes in batch {
         if bytes.is_empty() {
@@ -50,10 +51,12 @@ fn are_some(batch: &[Vec<u8>]) -> bool
     true
 }
 
-// Whether a batch may be put behind so many records.
+// Whether a batch may be put behind this count of records.
 fn test_batch(count: u64, batch: &[Vec<u8>]) -> Result<(), LogFault>
     ensures room { OnOk result (count < 2 ^ 62) }
     ensures some { OnOk result (AreSome (records_of batch.now)) }
+    ensures full { IsErrOf result LogFault.Full → 2 ^ 62 ≤ count }
+    ensures empty { IsErrOf result LogFault.Empty → AreSome (records_of batch.now) → ⊥ }
 {
     if count >= MOST {
         return Err(LogFault::Full);
@@ -95,8 +98,8 @@ fn head_alone<D: Disk>(
 }
 
 impl<D: Disk> Log<D> {
-    ghost use Rattle.std.specs.Prelude.{◌≡◌, ◌⊎◌, ◌++◌, ◌+◌, ◌-◌, ◌<◌, ◌≤◌, ◌^◌, min, [], true, List, ℕ, IfOk, OnOk, OnErr};
-    ghost use Rattle.gw_log.specs.Chain.{Origin, IsEither, Holds, beginning};
+    ghost use Rattle.std.specs.Prelude.{◌≡◌, ◌⊎◌, ◌++◌, ◌+◌, ◌-◌, ◌<◌, ◌≤◌, ◌^◌, min, [], true, List, ℕ, IsTrue, IsFalse, IsErrOf, IfOk, OnOk, OnErr};
+    ghost use Rattle.gw_log.specs.Chain.{AreSome, Origin, IsEither, IsLogOrFewer, Holds, HasRetired, beginning};
     ghost use Rattle.gw_log.specs.own.Turns.{IsNext};
     ghost use Rattle.gw_log.specs.Disk.{Only, LeavesOnly};
     ghost use Rattle.gw_log.specs.State.{records_of};
@@ -141,6 +144,9 @@ impl<D: Disk> Log<D> {
             Holds D.seen D.may_leave self.old from these those →
             OnOk result (Holds D.seen D.may_leave self.new from (these ++ those) (records_of batch.now)) }
         ensures err { OnErr result ((self.new ≡ self.old) ⊎ (self.new.segment.broken ≡ true)) }
+        ensures full { IsErrOf result LogFault.Full →
+            (2 ^ 62 ≤ self.old.count) ⊎ (2 ^ 60 ≤ self.old.segment.reach) }
+        ensures empty { IsErrOf result LogFault.Empty → AreSome (records_of batch.now) → ⊥ }
 
         // A crash at any moment leaves a log of what counted, or of that with all that was pending.
         ensures any_moment { (from : Origin) (these those : List (List ℕ)) →
@@ -233,6 +239,29 @@ impl<D: Disk> Log<D> {
                 Err(fault)
             }
         }
+    }
+
+    /// Removes the first file, if it is one of those that may be gone. False: it isn't.
+    pub fn retire(&mut self) -> Result<bool, LogFault>
+        ensures ok { (from : Origin) (these those : List (List ℕ)) →
+            Holds D.seen D.may_leave self.old from these those → IfOk result (λ done. IsTrue done →
+            HasRetired D.seen D.may_leave self.new from these those) }
+        ensures none { IfOk result (λ done. IsFalse done → self.new ≡ self.old) }
+        ensures err { OnErr result (self.new.segment.broken ≡ true) }
+
+        // A crash leaves the log as it was, or without the records of the first file.
+        ensures any_moment { (from : Origin) (these those : List (List ℕ)) →
+            Holds D.seen D.may_leave self.old from these those →
+            LeavesOnly D.moment D.left_since self.old.segment.disk self.new.segment.disk
+            (IsLogOrFewer self.old.id from these) }
+        ensures back { D.honest self.new.segment.disk → D.honest self.old.segment.disk }
+    {
+        if self.least >= self.oldest || self.least >= self.segment.number() {
+            return Ok(false);
+        }
+        self.segment.remove(self.least)?;
+        self.least += 1;
+        Ok(true)
     }
 
     /// How many records stand in the log, with those that are pending.

@@ -19,7 +19,7 @@ pub trait Calls {
     /// How many bytes a file has; 0 where there is none.
     fn size(&mut self, number: u64) -> Option<usize>;
 
-    /// So many bytes of a file from an offset on, or as many as there are.
+    /// The bytes of a file from an offset on: this number of them, or as many as there are.
     fn read(
         &mut self,
         alloc: Global,

@@ -90,7 +90,7 @@ fn open_file<D: Disk>(
 impl<D: Disk> Segment<D> {
     ghost use Rattle.std.specs.Prelude.{◌≡◌, ◌≢◌, ◌⊎◌, ◌++◌, ◌+◌, ◌<◌, ◌≤◌, ◌^◌, ◌∷◌, [], true, ℕ, List, length};
     ghost use Rattle.std.specs.Prelude.{IfOk, IfErr, IsErrOf, OnOk, OnErr};
-    ghost use Rattle.gw_log.specs.Disk.{Changes, LeavesOnly, Only};
+    ghost use Rattle.gw_log.specs.Disk.{Changes, IsGone, LeavesOnly, Only};
     ghost use Rattle.gw_log.specs.File.{Has, HasAs, HasEither, HasOrIs, IsDamagedAt};
     ghost use Rattle.gw_log.specs.State.{IsStaged, Stands, records_of};
     ghost use Rattle.gw_log.specs.own.Turns.{Turns, HasEnded, HasTurned};
@@ -221,6 +221,30 @@ impl<D: Disk> Segment<D> {
         Ok(())
     }
 
+    /// Removes the file of another number.
+    pub(crate) fn remove(&mut self, number: u64) -> Result<(), LogFault>
+        ensures stands { (these those : List (List ℕ)) → Stands D.seen D.may_leave self.old these those →
+            number ≢ self.old.number → OnOk result (Stands D.seen D.may_leave self.new these those) }
+        ensures removed { OnOk result (Changes number (λ file. file ≡ []) (D.seen self.old.disk) (D.seen self.new.disk)) }
+        ensures number { self.new.number ≡ self.old.number }
+        ensures err { OnErr result (self.new.broken ≡ true) }
+        ensures any_moment { (these those : List (List ℕ)) → Stands D.seen D.may_leave self.old these those →
+            LeavesOnly D.moment D.left_since self.old.disk self.new.disk
+            (Changes number (IsGone (D.seen self.old.disk number)) (D.seen self.old.disk)) }
+        ensures back { D.honest self.new.disk → D.honest self.old.disk }
+    {
+        if self.broken {
+            return Err(LogFault::Device);
+        }
+        match steps::remove(&mut self.disk, number) {
+            Ok(()) => Ok(()),
+            Err(fault) => {
+                self.broken = true;
+                Err(LogFault::from(fault))
+            }
+        }
+    }
+
     /// Nothing is asked of it any more.
     pub(crate) fn fail(&mut self)
         ensures { self.new ≡ record self.old { broken = true } }
@@ -242,6 +266,8 @@ impl<D: Disk> Segment<D> {
             OnOk result (Stands D.seen D.may_leave self.new (these ++ those) (records_of batch.now)) }
         ensures err { OnErr result ((self.new ≡ self.old) ⊎ (self.new.broken ≡ true)) }
         ensures number { self.new.number ≡ self.old.number }
+        ensures full { IsErrOf result LogFault.Full → 2 ^ 60 ≤ self.old.reach }
+        ensures empty { IsErrOf result LogFault.Empty → ⊥ }
 
         // A crash at any moment leaves what counted, or that with all that was pending.
         ensures any_moment { (these those : List (List ℕ)) → Stands D.seen D.may_leave self.old these those →

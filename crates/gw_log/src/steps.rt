@@ -2,7 +2,7 @@
 //!
 //! A record counts behind an open gate (1). A closed gate (0) stands behind the last one, on the disk before anything is written behind it.
 ghost use Rattle.std.specs.Prelude.{◌≡◌, ◌≢◌, ◌+◌, ◌<◌, ◌≤◌, ◌^◌, ◌++◌, [], List, ℕ, length, take, drop, OnOk, IsErrOf};
-ghost use Rattle.gw_log.specs.Disk.{Files, Changes, IsWritten, Torn, Cut, After, Follows, Only, LeavesOnly};
+ghost use Rattle.gw_log.specs.Disk.{Files, Changes, IsWritten, Torn, Cut, IsGone, After, Follows, Only, LeavesOnly};
 ghost use Rattle.gw_log.specs.File.{AreShort, Has, HasEither, HasOrIs};
 ghost use Rattle.gw_log.specs.State.{at_rest, IsStaged};
 ghost use Rattle.gw_log.specs.own.Steps.{UpTo};
@@ -98,6 +98,21 @@ pub(crate) fn put<D: Disk>(
         return Ok(());
     }
     write_synced(disk, number, end, &[OPEN])?;
+    Ok(())
+}
+
+/// Removes a file.
+pub(crate) fn remove<D: Disk>(disk: &mut D, number: u64) -> Result<(), DiskFault>
+    ensures only { Only (D.seen disk.old) (D.may_leave disk.old) →
+        OnOk result (Only (D.seen disk.new) (D.may_leave disk.new)) }
+    ensures removed { OnOk result (Changes number (λ file. file ≡ []) (D.seen disk.old) (D.seen disk.new)) }
+    ensures any_moment { Only (D.seen disk.old) (D.may_leave disk.old) →
+        LeavesOnly D.moment D.left_since disk.old disk.new
+        (Changes number (IsGone (D.seen disk.old number)) (D.seen disk.old)) }
+    ensures back { D.honest disk.new → D.honest disk.old }
+{
+    disk.remove(number)?;
+    disk.sync(number)?;
     Ok(())
 }
 

@@ -37,6 +37,8 @@ fn spell_one(out: &mut Vec<u8>, bytes: &[u8]) -> Result<(), LogFault>
     ensures spelled { OnOk result (out.new.items ≡ out.old.items ++ (1 ∷ body bytes.now)) }
     ensures short { OnOk result (length (item bytes.now) < 2 ^ 32) }
     ensures err { IsErrOf result LogFault.Device → ⊥ }
+    ensures room { IsErrOf result LogFault.Full → ⊥ }
+    ensures empty { IsErrOf result LogFault.Empty → ⊥ }
 {
     if bytes.len() > LONGEST {
         return Err(LogFault::TooLong);
@@ -50,6 +52,8 @@ pub(crate) fn spell(alloc: Global, records: &[Vec<u8>]) -> Result<Vec<u8>, LogFa
     ensures whole { IfOk result (λ out. out.items ≡ at_rest (records_of records.now)) }
     ensures short { IfOk result (λ out. AreShort (records_of records.now)) }
     ensures err { IsErrOf result LogFault.Device → ⊥ }
+    ensures room { IsErrOf result LogFault.Full → ⊥ }
+    ensures empty { IsErrOf result LogFault.Empty → ⊥ }
 {
     let mut out = Vec::new(alloc);
     for bytes in records {

@@ -24,6 +24,7 @@ mod journals;
 #[cfg(test)]
 mod locked;
 #[cfg(test)]
+mod logs;
 mod maps;
 #[cfg(test)]
 mod messages;

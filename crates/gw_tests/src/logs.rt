@@ -1,0 +1,265 @@
+//! A log over a folder in memory, at which the power may fail after each call.
+use gw_log::{Calls, DiskFault, Log, LogFault, Reader, Recorded, Segment};
+use std::alloc::{AllocError, Global};
+use std::marker::Brand;
+use std::test::Fail;
+
+/// A write that was not synced.
+#[derive(Drop)]
+struct Write {
+    number: usize,
+    at: usize,
+    bytes: Vec<u8>,
+}
+
+/// Files by their numbers, as they are read and as they were synced, and what was written since. Once no call is left, nothing is done any more.
+#[derive(Drop)]
+struct Folder {
+    alloc: Global,
+    seen: Vec<Vec<u8>>,
+    kept: Vec<Vec<u8>>,
+    writes: Vec<Write>,
+    left: usize,
+}
+
+// Puts bytes at an offset of others, over what is there and past the end.
+fn put(file: &mut Vec<u8>, at: usize, bytes: &[u8]) -> Result<(), AllocError> {
+    let end = at.saturating_add(bytes.len());
+    if end <= file.len() && at <= end && end - at == bytes.len() {
+        file[at..end].copy_from_slice(bytes);
+        return Ok(());
+    }
+    file.truncate(at);
+    file.extend_from_slice(bytes)
+}
+
+fn copied(alloc: Global, files: &[Vec<u8>]) -> Result<Vec<Vec<u8>>, AllocError> {
+    let mut copies = Vec::new(alloc);
+    for file in files {
+        copies.push(Vec::from_slice(alloc, file)?)?;
+    }
+    Ok(copies)
+}
+
+impl Folder {
+    // A folder with these files, all of them on the disk.
+    fn new(alloc: Global, files: &[Vec<u8>], left: usize) -> Result<Folder, AllocError> {
+        Ok(Folder {
+            alloc,
+            seen: copied(alloc, files)?,
+            kept: copied(alloc, files)?,
+            writes: Vec::new(alloc),
+            left,
+        })
+    }
+
+    // One call more.
+    fn is_on(&mut self) -> bool {
+        if self.left == 0 {
+            return false;
+        }
+        self.left -= 1;
+        true
+    }
+
+    // What a power failure leaves, if of the writes that were not synced those of this set were done.
+    fn image(&self, set: usize) -> Result<Vec<Vec<u8>>, AllocError> {
+        let mut files = copied(self.alloc, &self.kept)?;
+        let mut bits = set;
+        for write in &self.writes {
+            if bits % 2 == 1
+                && let Some(file) = files.get_mut(write.number)
+            {
+                put(file, write.at, &write.bytes)?;
+            }
+            bits /= 2;
+        }
+        Ok(files)
+    }
+}
+
+impl Calls for Folder {
+    fn ends(&mut self) -> Option<(u64, u64)> {
+        let (mut first, mut last) = (1, 0);
+        for (number, file) in self.seen.iter().enumerate() {
+            if !file.is_empty() {
+                if last == 0 {
+                    first = number as u64;
+                }
+                last = number as u64;
+            }
+        }
+        Some((first, last))
+    }
+
+    fn size(&mut self, number: u64) -> Option<usize> {
+        Some(self.seen.get(number as usize)?.len())
+    }
+
+    fn read(
+        &mut self,
+        alloc: Global,
+        number: u64,
+        at: usize,
+        len: usize,
+    ) -> Result<Vec<u8>, DiskFault> {
+        let Some(file) = self.seen.get(number as usize) else {
+            return Err(DiskFault::Failed);
+        };
+        let at = at.min(file.len());
+        let len = len.min(file.len() - at);
+        Ok(Vec::from_slice(alloc, &file[at..at + len])?)
+    }
+
+    fn write_at(&mut self, number: u64, at: usize, bytes: &[u8]) -> bool {
+        let number = number as usize;
+        if !self.is_on() {
+            return false;
+        }
+        let Some(file) = self.seen.get_mut(number) else {
+            return false;
+        };
+        let Ok(copy) = Vec::from_slice(self.alloc, bytes) else {
+            return false;
+        };
+        let write = Write {
+            number,
+            at,
+            bytes: copy,
+        };
+        put(file, at, bytes).is_ok() && self.writes.push(write).is_ok()
+    }
+
+    fn cut(&mut self, number: u64, len: usize) -> bool {
+        match self.seen.get_mut(number as usize) {
+            Some(file) => file.truncate(len),
+            None => return false,
+        }
+        self.is_on()
+    }
+
+    fn sync(&mut self, _number: u64) -> bool {
+        if !self.is_on() {
+            return false;
+        }
+        match copied(self.alloc, &self.seen) {
+            Ok(files) => {
+                self.kept = files;
+                self.writes.clear();
+                true
+            }
+            Err(_) => false,
+        }
+    }
+
+    fn remove(&mut self, number: u64) -> bool {
+        self.cut(number, 0)
+    }
+}
+
+fn batch(alloc: Global, records: &[&[u8]]) -> Result<Vec<Vec<u8>>, AllocError> {
+    let mut out = Vec::new(alloc);
+    for bytes in records {
+        out.push(Vec::from_slice(alloc, bytes)?)?;
+    }
+    Ok(out)
+}
+
+fn no_files(alloc: Global) -> Result<Vec<Vec<u8>>, AllocError> {
+    batch(alloc, &[b"", b"", b"", b""])
+}
+
+// What two batches and their end do to a segment, until the power fails.
+fn run(segment: &mut Segment<Recorded<Folder, Brand>>, alloc: Global) -> Result<(), LogFault> {
+    segment.put(&batch(alloc, &[b"one", b"two"])?)?;
+    segment.put(&batch(alloc, &[b"three"])?)?;
+    segment.settle()
+}
+
+// The folder after this number of calls.
+fn after(alloc: Global, calls: usize) -> Result<Folder, AllocError> {
+    let folder = Folder::new(alloc, &no_files(alloc)?, calls)?;
+    match Segment::open(alloc, Recorded::<Folder, Brand>::new(folder), 1) {
+        Err((_, disk)) => Ok(disk.into_calls()),
+        Ok((mut segment, _)) => {
+            let _ended = run(&mut segment, alloc);
+            Ok(segment.into_disk().into_calls())
+        }
+    }
+}
+
+// How many records a segment has in this folder.
+fn count(alloc: Global, files: &[Vec<u8>]) -> Result<usize, LogFault> {
+    let folder = Folder::new(alloc, files, 100)?;
+    match Segment::open(alloc, Recorded::<Folder, Brand>::new(folder), 1) {
+        Err((fault, _)) => Err(fault),
+        Ok((_, records)) => Ok(records.len()),
+    }
+}
+
+#[test]
+fn a_power_failure_leaves_whole_batches(rt: HostRuntime) -> Result<(), Fail> {
+    let alloc = rt.alloc();
+    let mut seen = [false; 4];
+    for calls in 0..14 {
+        let folder = after(alloc, calls)?;
+        for set in 0..4 {
+            let records = count(alloc, &folder.image(set)?)?;
+            assert!(rt; records < 4 && records != 1);
+            if records < 4 {
+                seen[records] = true;
+            }
+        }
+    }
+    assert_eq!(rt; seen, [true, false, true, true]);
+    Ok(())
+}
+
+// A log of three records in two files.
+fn two_files(alloc: Global) -> Result<Folder, LogFault> {
+    let folder = Folder::new(alloc, &no_files(alloc)?, 100)?;
+    let disk = Recorded::<Folder, Brand>::new(folder);
+    let mut log = match Log::create(alloc, disk, 7, b"start") {
+        Ok(log) => log,
+        Err((fault, _)) => return Err(fault),
+    };
+    log.put(&batch(alloc, &[b"one", b"two"])?)?;
+    log.begin_next(1, b"later")?;
+    log.put(&batch(alloc, &[b"three"])?)?;
+    log.settle()?;
+    Ok(log.into_disk().into_calls())
+}
+
+#[test]
+fn a_reader_goes_over_a_segment(rt: HostRuntime) -> Result<(), Fail> {
+    let alloc = rt.alloc();
+    let folder = two_files(alloc)?;
+    assert_eq!(rt; count(alloc, &folder.seen)?, 4); // the head, two records, and the end
+    let size = folder.seen.get(1).map_or(0, |file| file.len());
+    let disk = Recorded::<Folder, Brand>::new(folder);
+    let mut reader = Reader::at(alloc, disk, 1, 0, size.saturating_sub(1));
+    let mut lengths = Vec::new(alloc);
+    for _ in 0..6 {
+        if let Some(record) = reader.next()? {
+            lengths.push(record.len())?;
+        }
+    }
+    assert_eq!(rt; lengths.as_slice(), [45, 3, 3, 0].as_slice());
+    Ok(())
+}
+
+#[test]
+fn a_record_that_rots_is_damage(rt: HostRuntime) -> Result<(), Fail> {
+    let alloc = rt.alloc();
+    let mut folder = two_files(alloc)?;
+    if let Some(file) = folder.seen.get_mut(1)
+        && let Some(byte) = file.get_mut(120)
+    {
+        *byte ^= 1;
+    }
+    assert_eq!(rt;
+        count(alloc, &folder.seen).err(),
+        Some(LogFault::Damaged { segment: 1, at: 82 })
+    );
+    Ok(())
+}
