@@ -1,4 +1,4 @@
-//! A journal that threads share: each puts records, and who was told that a record is stored has a receipt for it.
+//! A journal that threads share: each puts records, and gets a receipt for a record once it is on the disk.
 //!
 //! A thread that waits for a receipt has the storage bring to the disk what all threads put, for all of them.
 #![tactic(auto)]
