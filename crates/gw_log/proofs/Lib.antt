@@ -9,3 +9,4 @@ pub mod Logs
 pub mod Turning
 pub mod Placing
 pub mod Retiring
+pub mod Founding

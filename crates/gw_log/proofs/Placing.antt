@@ -3,7 +3,7 @@ use Rattle.std.proofs.Common.{◌≡◌, ◌≢◌, inl, inr, ℕ, zero, suc, �
 use Rattle.std.specs.Int.{w64, to_be_bytes, from_be_bytes}
 use Rattle.std.proofs.lemmas.Nat.{from_be_bytes-to_be_bytes_8}
 use Rattle.std.proofs.lemmas.Bool.{cases_eq, cases_lt}
-use Rattle.gw_log.specs.Disk.{Files, AreWithin}
+use Rattle.gw_log.specs.Disk.{Files, AreEnds}
 use Rattle.gw_log.specs.File.{Has}
 use Rattle.gw_log.specs.State.{Stands}
 use Rattle.gw_log.specs.Chain.{Head, spelled, IsWide, IsEnded, ended, AreBefore, none, more, Origin, IsLast, IsLog, LogState, Holds, HasHead, first_head, beginning}
@@ -20,6 +20,18 @@ split n m x y same = fronts 8 (to_be_bytes w64 n) (to_be_bytes w64 m) x y refl r
 
 first_same : (a b : List ℕ) (xs ys : List (List ℕ)) → a ∷ xs ≡ b ∷ ys → a ≡ b
 first_same a b xs ys same = cc (same)
+
+-- and so is each of its numbers
+pub same_numbers : (g h : Head) → IsWide g → IsWide h → spelled g ≡ spelled h → (g.number ≡ h.number) × (g.first ≡ h.first) × (g.oldest ≡ h.oldest)
+same_numbers g h wide fits same =
+    let s1 = split g.number h.number _ _ same in
+    let s2 = split g.first h.first _ _ s1.1 in
+    let s3 = split g.before h.before _ _ s2.1 in
+    let s4 = split g.oldest h.oldest _ _ s3.1 in (
+      one_number g.number h.number wide.its_number fits.its_number s1.0,
+      one_number g.first h.first wide.its_first fits.its_first s2.0,
+      one_number g.oldest h.oldest wide.its_oldest fits.its_oldest s4.0,
+    )
 
 pub one_headed : (id other n m b c : ℕ) (file : List ℕ) → HasHead id n b file → HasHead other m c file → (id ≡ other) × (n ≡ m) × (b ≡ c)
 one_headed id other n m b c file these those =
@@ -38,7 +50,7 @@ one_headed id other n m b c file these those =
 
 -- ---- each in its place
 
-has_ended : (h : Head) (records : List (List ℕ)) (file : List ℕ) → IsEnded h records file → Has (ended h records) file
+pub has_ended : (h : Head) (records : List (List ℕ)) (file : List ℕ) → IsEnded h records file → Has (ended h records) file
 has_ended h records file is = has_shut (ended h records) 0 [] file (omega arith) is.short is.whole
 
 first_place : (id : ℕ) (files : Files) (last : Head) (these : List (List ℕ)) (n f b : ℕ) (records : List (List ℕ)) → IsLast last these (files last.number)
@@ -83,7 +95,7 @@ not_none : (id n b : ℕ) (file : List ℕ) → HasHead id n b file → file ≡
 not_none id n b file head is = omega (arith, ap length (sym is ∙ head.has.whole))
 
 -- each file from the first to the last has a byte
-some_there : (id : ℕ) (files : Files) (from : Origin) (records : List (List ℕ)) (is : IsLog id files from records) (n : ℕ) → from.number ≤ n → n ≤ is.head.number
+pub some_there : (id : ℕ) (files : Files) (from : Origin) (records : List (List ℕ)) (is : IsLog id files from records) (n : ℕ) → from.number ≤ n → n ≤ is.head.number
     → files n ≡ [] → ⊥
 some_there id files from records is zero le lt here =
     let at : from.number ≡ zero = omega (arith, le) in
@@ -108,12 +120,12 @@ gap id files from records n is here next = elim (cases_lt n from.number) [
 
 -- ---- a new log
 
-listless : (l : List ℕ) → (l ≢ [] → ⊥) → l ≡ []
+pub listless : (l : List ℕ) → (l ≢ [] → ⊥) → l ≡ []
 listless [] not_some = refl
 listless (x ∷ l) not_some = absurd (not_some (λ is. omega (arith, ap length is)))
 
-pub none_within : (first last : ℕ) (files : Files) → last < first → AreWithin first last files → (n : ℕ) → files n ≡ []
-none_within first last files lt within n = listless (files n) (λ some. let ends = within n some in omega (arith, ends.0, ends.1, lt))
+pub none_within : (first last : ℕ) (files : Files) → last < first → AreEnds first last files → (n : ℕ) → files n ≡ []
+none_within first last files lt are n = listless (files n) (λ some. let ends = are.within n some in omega (arith, ends.0, ends.1, lt))
 
 pub created : {D : Type 0} (seen : D → Files) (may_leave : D → Files → Type 0) (t : LogState D) (base : Files) (id : ℕ) (checkpoint : List ℕ) (batch : List (List ℕ))
     → batch ≡ spelled (first_head id checkpoint) ∷ [] → IsWide (first_head id checkpoint) → Stands seen may_leave t.segment batch [] → t.segment.number ≡ 1

@@ -39,7 +39,7 @@ one_record a b same = (fronts 32 (sha256 a) (sha256 b) a b (length-sha256 a) (le
 pub is_synced : (a : List ℕ) (more : List ℕ) → IsUnsynced (1 ∷ body a ++ more) → ⊥
 is_synced a more is = is refl
 
-first_same : (a b : List ℕ) (x y : List ℕ) → length (item a) < 2 ^ 32 → length (item b) < 2 ^ 32 → 1 ∷ body a ++ x ≡ 1 ∷ body b ++ y → (a ≡ b) × (x ≡ y)
+pub first_same : (a b : List ℕ) (x y : List ℕ) → length (item a) < 2 ^ 32 → length (item b) < 2 ^ 32 → 1 ∷ body a ++ x ≡ 1 ∷ body b ++ y → (a ≡ b) × (x ≡ y)
 first_same a b x y short fits same =
     let split = one_item (item a) (item b) x y short fits (ap (λ (l : List ℕ). drop 1 l) same) in
     (one_record a b split.0, split.1)

@@ -62,6 +62,12 @@ pub record LeavesOnly {D : Type 0} (moment : D → ℕ) (left_since : D → ℕ 
 abbrev pub AreWithin : (first last : ℕ) → Files → Type 0
 AreWithin first last files = (number : ℕ) → files number ≢ [] → (first ≤ number) × (number ≤ last)
 
+-- the least and the greatest number of a file that has a byte; where there is none, the first is above the last
+pub record AreEnds (first last : ℕ) (files : Files) : Type 0 where
+  pub within : AreWithin first last files
+  pub low : first ≤ last → files first ≢ []
+  pub high : first ≤ last → files last ≢ []
+
 -- `Failed` is reported only where the disk has failed since
 pub record HasCause {T : Type 0} (before now : ℕ) (result : Result T DiskFault) : Type 0 where
   pub later : before ≤ now

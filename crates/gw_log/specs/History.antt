@@ -2,7 +2,7 @@
 use Rattle.std.specs.Prelude.{◌≡◌, ◌⊎◌, ⊤, ℕ, zero, suc, ◌+◌, ◌≤◌, nat_eq, if◌then◌else◌, List, [], ◌∷◌, ◌++◌, length, take, drop, slice_index}
 use mathlib.Core.Logic.{inl, inr}
 use Rattle.std.proofs.Common.{arith}
-use Rattle.gw_log.specs.Disk.{Files, Torn, Cut, IsGone, After, AreWithin}
+use Rattle.gw_log.specs.Disk.{Files, Torn, Cut, IsGone, After, AreEnds}
 
 pub data Event : Type 0 where
   Ends : (first last : ℕ) → Event
@@ -77,7 +77,7 @@ faults_in (Removed number ∷ before) = faults_in before
 -- The answers were true: what was read is what the files had
 abbrev pub IsHonest : Files → List Event → Type 0
 IsHonest first [] = ⊤
-IsHonest first (Ends a z ∷ before) = AreWithin a z (seen_after first before) × IsHonest first before
+IsHonest first (Ends a z ∷ before) = AreEnds a z (seen_after first before) × IsHonest first before
 IsHonest first (Sized number size ∷ before) = (size ≡ length (seen_after first before number)) × IsHonest first before
 IsHonest first (Read number at len bytes ∷ before) = (bytes ≡ take len (drop at (seen_after first before number))) × IsHonest first before
 IsHonest first (Wrote number at bytes ∷ before) = IsHonest first before

@@ -4,4 +4,5 @@ pub mod File
 pub mod History
 pub mod State
 pub mod Chain
+pub mod Opening
 pub mod own

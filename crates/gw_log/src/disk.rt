@@ -1,7 +1,7 @@
 //! A folder of numbered files as a log sees it: what a read returns, and what a crash may leave.
 ghost use Rattle.std.specs.Prelude.{◌≡◌, ◌≤◌, [], List, ℕ, length, take, drop, IfOk, OnOk};
 ghost use Rattle.gw_log.specs.declared.disk.DiskFault.TheVariants.{Memory};
-ghost use Rattle.gw_log.specs.Disk.{Files, Changes, IsWritten, Torn, Cut, IsGone, Follows, Elapses, AreWithin, HasCause};
+ghost use Rattle.gw_log.specs.Disk.{Files, Changes, IsWritten, Torn, Cut, IsGone, Follows, Elapses, AreEnds, HasCause};
 
 use std::alloc::{AllocError, AllocFailed, Global};
 use thiserror::Error;
@@ -55,7 +55,7 @@ pub trait Disk {
 
     /// The least and the greatest number of a file that has a byte. Where there is none, the first is above the last.
     fn ends(&mut self) -> Result<(u64, u64), DiskFault>
-        ensures ends { honest self.new → IfOk result (λ r. AreWithin r.0 r.1 (seen self.old)) }
+        ensures ends { honest self.new → IfOk result (λ r. AreEnds r.0 r.1 (seen self.old)) }
         ensures seen { seen self.new ≡ seen self.old }
         ensures crash { (c : Files) → may_leave self.new c → may_leave self.old c }
         ensures time { Elapses moment left_since may_leave self.old self.new }

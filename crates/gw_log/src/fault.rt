@@ -28,6 +28,9 @@ pub enum LogFault {
     /// The folder has a file.
     #[error("the folder has files")]
     Taken,
+    /// The folder has no file.
+    #[error("the folder has no file")]
+    Missing,
     /// What stands at this offset of a segment's file is no record, or its digest isn't that of its bytes.
     #[error("segment {segment} is damaged at byte {at}")]
     Damaged { segment: u64, at: usize },
@@ -36,7 +39,7 @@ pub enum LogFault {
 impl LogFault {
     ghost use Rattle.gw_log.specs.Numbers.{number};
 
-    /// The number of the fault, from 1 for an allocation failure to 7. It takes no memory.
+    /// The number of the fault, from 1 for an allocation failure to 8. It takes no memory.
     pub fn number(&self) -> u8
         ensures { result ≡ number self.now }
     {
@@ -48,6 +51,7 @@ impl LogFault {
             LogFault::Damaged { .. } => 5,
             LogFault::Empty => 6,
             LogFault::Taken => 7,
+            LogFault::Missing => 8,
         }
     }
 }

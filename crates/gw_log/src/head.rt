@@ -77,6 +77,7 @@ fn number_at(bytes: &[u8]) -> (u64, &[u8])
 /// The head that the first record of a file spells. `None`: it has less than forty bytes.
 pub fn read_head(bytes: &[u8]) -> Option<Head<'_>>
     ensures some { IfSome result (λ h. bytes.now ≡ spelled h) }
+    ensures wide { IfSome result (λ h. IsWide h) }
     ensures none { IfNone result (length bytes.now < 40) }
 {
     if bytes.len() < SHORTEST {

@@ -8,6 +8,7 @@ mod head;
 mod history;
 pub mod laws;
 mod log;
+mod opening;
 mod reader;
 mod reading;
 mod recorded;

@@ -7,6 +7,7 @@ ghost use Rattle.gw_log.specs.State.{records_of};
 use crate::disk::Disk;
 use crate::fault::LogFault;
 use crate::head::{Head, seal, spell_head};
+use crate::opening::{Found, open_folder};
 use crate::segment::Segment;
 use crate::writing::BEFORE;
 use std::alloc::Global;
@@ -98,9 +99,11 @@ fn head_alone<D: Disk>(
 }
 
 impl<D: Disk> Log<D> {
-    ghost use Rattle.std.specs.Prelude.{◌≡◌, ◌⊎◌, ◌++◌, ◌+◌, ◌-◌, ◌<◌, ◌≤◌, ◌^◌, min, [], true, List, ℕ, IsTrue, IsFalse, IsErrOf, IfOk, OnOk, OnErr};
-    ghost use Rattle.gw_log.specs.Chain.{AreSome, Origin, IsEither, IsLogOrFewer, Holds, HasRetired, beginning};
+    ghost use Rattle.std.specs.Prelude.{◌≡◌, ◌⊎◌, ◌++◌, ◌+◌, ◌-◌, ◌<◌, ◌≤◌, ◌^◌, min, [], true, List, ℕ, IsTrue, IsFalse, IsErrOf, IfOk, IfErr, OnOk, OnErr};
+    ghost use Rattle.gw_log.specs.Chain.{AreSome, Origin, IsLog, IsEither, IsLogOrFewer, Holds, HasRetired, beginning};
     ghost use Rattle.gw_log.specs.own.Turns.{IsNext};
+    ghost use Rattle.gw_log.specs.File.{Has};
+    ghost use Rattle.gw_log.specs.Opening.{BeginsAs, AreLinked, IsSealed};
     ghost use Rattle.gw_log.specs.Disk.{Only, LeavesOnly};
     ghost use Rattle.gw_log.specs.State.{records_of};
 
@@ -135,6 +138,65 @@ impl<D: Disk> Log<D> {
                 least: 1,
             }),
         }
+    }
+
+    /// The log of this number that a crash left in a folder, and the records of its last file, of which the first is the head. It may crash too.
+    ///
+    /// After `Damaged` or `Missing` the folder is as it was.
+    pub fn open(alloc: Global, disk: D, id: u64) -> Result<(Log<D>, Vec<Vec<u8>>), (LogFault, D)>
+        // After a restart, what is read is what is on the disk.
+        requires { Only (D.seen disk) (D.may_leave disk) }
+        // What the folder is a log of, the log holds.
+        ensures ok { IfOk result (λ r. D.honest r.0.segment.disk → (from : Origin) (records : List (List ℕ)) →
+            IsLog id (D.seen disk) from records → Holds D.seen D.may_leave r.0 from records []) }
+        ensures id { IfOk result (λ r. r.0.id ≡ id) }
+        ensures last { IfOk result (λ r. D.honest r.0.segment.disk →
+            Has (records_of r.1.items) (D.seen disk r.0.segment.number)) }
+        // No file is missing, cut, exchanged or another log's, and the last one isn't ended.
+        ensures linked { IfOk result (λ r. D.honest r.0.segment.disk →
+            AreLinked id (D.seen disk) r.0.least r.0.segment.number) }
+        ensures head { IfOk result (λ r. D.honest r.0.segment.disk → (before : ℕ) ×
+            BeginsAs id r.0.segment.number r.0.first before r.0.oldest (D.seen disk r.0.segment.number)) }
+        ensures there { IfOk result (λ r. r.0.least ≤ r.0.oldest) }
+        ensures behind { IfOk result (λ r. D.honest r.0.segment.disk → (n : ℕ) →
+            r.0.segment.number + 1 < n → D.seen disk n ≡ []) }
+        ensures unsealed { IfOk result (λ r. IsSealed (records_of r.1.items) → ⊥) }
+
+        // A crash at any moment leaves a log of the same records.
+        ensures any_moment { IfOk result (λ r. D.honest r.0.segment.disk → (from : Origin) (records : List (List ℕ)) →
+            IsLog id (D.seen disk) from records →
+            LeavesOnly D.moment D.left_since disk r.0.segment.disk (λ c. IsLog id c from records)) }
+        ensures any_moment_err { IfErr result (λ e. D.honest e.1 → (from : Origin) (records : List (List ℕ)) →
+            IsLog id (D.seen disk) from records →
+            LeavesOnly D.moment D.left_since disk e.1 (λ c. IsLog id c from records)) }
+        ensures untouched { IfErr result (λ e. (segment at : ℕ) →
+            e.0 ≡ LogFault.Damaged segment at → Only (D.seen disk) (D.may_leave e.1)) }
+        ensures missing { IfErr result (λ e. D.honest e.1 → e.0 ≡ LogFault.Missing → (n : ℕ) → D.seen disk n ≡ []) }
+        ensures back { IfOk result (λ r. D.honest r.0.segment.disk → D.honest disk) }
+    {
+        let mut disk = disk;
+        let found = match open_folder(alloc, &mut disk, id) {
+            Ok(found) => found,
+            Err(fault) => return Err((fault, disk)),
+        };
+        let Found {
+            number,
+            records,
+            end,
+            place,
+            least,
+            top: _,
+        } = found;
+        let log = Log {
+            alloc,
+            segment: Segment::over(alloc, disk, number, end),
+            id,
+            first: place.first,
+            count: (records.len() as u64).saturating_sub(1),
+            oldest: place.oldest,
+            least,
+        };
+        Ok((log, records))
     }
 
     /// Puts a batch behind the others, and brings it to the disk. It counts only once the next batch was put, or the log was settled.

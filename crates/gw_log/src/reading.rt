@@ -3,9 +3,9 @@ ghost use Rattle.std.specs.Prelude.{◌≡◌, ◌↔◌, ◌+◌, ◌<◌, ◌^
 ghost use Rattle.std.specs.Prelude.{length, take, drop, Some, IfOk, IfErr, IfSome, IfNone, IsErrOf, IsTrue, OnOk};
 ghost use Rattle.std.specs.Int.{w32, to_be_bytes};
 ghost use Rattle.sha2.specs.Sha256.{sha256};
-ghost use Rattle.gw_log.specs.Disk.{Files};
 ghost use Rattle.gw_log.specs.File.{item, body, IsUnsynced, IsDamagedAt, HasNoRecord, HasRecordAt};
 ghost use Rattle.gw_log.specs.own.Steps.{Begins, BeginsItem, HasNoItem, UpTo, Refuses};
+ghost use Rattle.gw_log.specs.own.Opens.{Reads};
 ghost use Rattle.gw_log.specs.State.{records_of};
 
 use crate::digest::{DIGEST, digest_of};
@@ -148,7 +148,8 @@ fn long_record<D: Disk>(
         HasNoRecord (drop at (D.seen disk.old number)) }
     ensures place { (segment place : ℕ) → IsErrOf result (LogFault.Damaged segment place) → segment ≡ number }
     ensures seen { D.seen disk.new ≡ D.seen disk.old }
-    ensures durable { (c : Files) → D.may_leave disk.new c → D.may_leave disk.old c }
+    ensures missing { IsErrOf result LogFault.Missing → ⊥ }
+    ensures reads { Reads D.seen D.may_leave D.moment D.left_since D.honest disk.old disk.new }
     ensures back { D.honest disk.new → D.honest disk.old }
 {
     let damaged = LogFault::Damaged {
@@ -179,7 +180,8 @@ pub(crate) fn record_at<D: Disk>(
         IsErrOf result (LogFault.Damaged segment place) → HasNoRecord (drop at (D.seen disk.old number)) }
     ensures place { (segment place : ℕ) → IsErrOf result (LogFault.Damaged segment place) → segment ≡ number }
     ensures seen { D.seen disk.new ≡ D.seen disk.old }
-    ensures durable { (c : Files) → D.may_leave disk.new c → D.may_leave disk.old c }
+    ensures missing { IsErrOf result LogFault.Missing → ⊥ }
+    ensures reads { Reads D.seen D.may_leave D.moment D.left_since D.honest disk.old disk.new }
     ensures back { D.honest disk.new → D.honest disk.old }
 {
     let front = disk.read(alloc, number, at, FIRST)?;

@@ -3,6 +3,7 @@ ghost use Rattle.std.specs.Prelude.{◌≡◌, ◌⊎◌, ◌<◌, ◌≤◌, �
 ghost use Rattle.gw_log.specs.Disk.{Files, Changes, Only, LeavesOnly};
 ghost use Rattle.gw_log.specs.File.{Has, HasAs, HasEither, HasOrIs, IsDamagedAt};
 ghost use Rattle.gw_log.specs.State.{IsStaged, Stands, records_of};
+ghost use Rattle.gw_log.specs.own.Opens.{Reads};
 
 use crate::disk::{Disk, DiskFault};
 use crate::fault::LogFault;
@@ -34,8 +35,13 @@ impl<D: Disk> Model for Segment<D> {
     ghost view = { λ s. record { disk = s.disk; number = s.number; end = s.end; reach = s.reach; broken = s.broken } };
 }
 
-// All the bytes of a file, which stays as it is.
-fn read_all<D: Disk>(alloc: Global, disk: &mut D, number: u64) -> Result<Vec<u8>, DiskFault>
+/// All the bytes of a file, which stays as it is.
+pub(crate) fn read_all<D: Disk>(
+    alloc: Global,
+    disk: &mut D,
+    number: u64,
+) -> Result<Vec<u8>, DiskFault>
+    ensures reads { Reads D.seen D.may_leave D.moment D.left_since D.honest disk.old disk.new }
     ensures bytes { D.honest disk.new → IfOk result (λ bytes. bytes.items ≡ D.seen disk.old number) }
     ensures seen { D.seen disk.new ≡ D.seen disk.old }
     ensures durable { Only (D.seen disk.old) (D.may_leave disk.old) →
@@ -88,7 +94,7 @@ fn open_file<D: Disk>(
 }
 
 impl<D: Disk> Segment<D> {
-    ghost use Rattle.std.specs.Prelude.{◌≡◌, ◌≢◌, ◌⊎◌, ◌++◌, ◌+◌, ◌<◌, ◌≤◌, ◌^◌, ◌∷◌, [], true, ℕ, List, length};
+    ghost use Rattle.std.specs.Prelude.{◌≡◌, ◌≢◌, ◌⊎◌, ◌++◌, ◌+◌, ◌<◌, ◌≤◌, ◌^◌, ◌∷◌, [], true, false, ℕ, List, length};
     ghost use Rattle.std.specs.Prelude.{IfOk, IfErr, IsErrOf, OnOk, OnErr};
     ghost use Rattle.gw_log.specs.Disk.{Changes, IsGone, LeavesOnly, Only};
     ghost use Rattle.gw_log.specs.File.{Has, HasAs, HasEither, HasOrIs, IsDamagedAt};
@@ -133,6 +139,20 @@ impl<D: Disk> Segment<D> {
                 records,
             )),
             Err(fault) => Err((fault, disk)),
+        }
+    }
+
+    /// The segment over a file whose records end here.
+    pub(crate) fn over(alloc: Global, disk: D, number: u64, end: usize) -> Segment<D>
+        ensures { result ≡ record { disk = disk; number = number; end = end; reach = end; broken = false } }
+    {
+        Segment {
+            alloc,
+            disk,
+            number,
+            end,
+            reach: end,
+            broken: false,
         }
     }
 

@@ -263,3 +263,87 @@ fn a_record_that_rots_is_damage(rt: HostRuntime) -> Result<(), Fail> {
     );
     Ok(())
 }
+
+// How many records a log has in these files.
+fn open(alloc: Global, files: &[Vec<u8>], id: u64) -> Result<u64, LogFault> {
+    let folder = Folder::new(alloc, files, 100)?;
+    match Log::open(alloc, Recorded::<Folder, Brand>::new(folder), id) {
+        Err((fault, _)) => Err(fault),
+        Ok((log, _)) => Ok(log.len()),
+    }
+}
+
+// The files of a log of four records, of which the last stands in the third file.
+fn three_files(alloc: Global) -> Result<Vec<Vec<u8>>, LogFault> {
+    let disk = Recorded::<Folder, Brand>::new(two_files(alloc)?);
+    let (mut log, records) = match Log::open(alloc, disk, 7) {
+        Ok(found) => found,
+        Err((fault, _)) => return Err(fault),
+    };
+    if records.len() != 2 {
+        return Err(LogFault::Empty);
+    }
+    log.begin_next(1, b"last")?;
+    log.put(&batch(alloc, &[b"four"])?)?;
+    log.settle()?;
+    let folder = log.into_disk().into_calls();
+    Ok(copied(alloc, &folder.seen)?)
+}
+
+// What the log is once this file has these bytes.
+fn changed(alloc: Global, number: usize, bytes: &[u8]) -> Result<u64, LogFault> {
+    let mut files = three_files(alloc)?;
+    if let Some(file) = files.get_mut(number) {
+        *file = Vec::from_slice(alloc, bytes)?;
+    }
+    open(alloc, &files, 7)
+}
+
+fn damaged(segment: u64, at: usize) -> Result<u64, LogFault> {
+    Err(LogFault::Damaged { segment, at })
+}
+
+#[test]
+fn a_file_out_of_the_chain_is_damage(rt: HostRuntime) -> Result<(), Fail> {
+    let alloc = rt.alloc();
+    let files = three_files(alloc)?;
+    assert_eq!(rt; open(alloc, &files, 7), Ok(4));
+    assert_eq!(rt; open(alloc, &files, 8), damaged(1, 0)); // of another log
+    assert_eq!(rt; open(alloc, &no_files(alloc)?, 7), Err(LogFault::Missing));
+    assert_eq!(rt; changed(alloc, 1, b""), damaged(1, 0)); // the first is gone
+    assert_eq!(rt; changed(alloc, 2, b""), damaged(2, 0)); // one between others
+    assert_eq!(rt; changed(alloc, 3, b""), damaged(3, 0)); // the last
+    if let [_, first, second, third] = files.as_slice() {
+        assert_eq!(rt; changed(alloc, 2, first), damaged(2, 0)); // a copy
+        assert_eq!(rt; changed(alloc, 3, second), damaged(4, 0)); // an ended one
+        assert_eq!(rt; changed(alloc, 2, third), damaged(2, 0));
+        let cut = &first[..first.len().min(82)];
+        assert_eq!(rt; changed(alloc, 1, cut), damaged(1, 82)); // cut at a record
+    }
+    Ok(())
+}
+
+// The folder after this number of calls of a log that goes on to a second file.
+fn turned(alloc: Global, calls: usize) -> Result<Folder, LogFault> {
+    let before = two_files(alloc)?;
+    let folder = Folder::new(alloc, &before.seen, calls)?;
+    match Log::open(alloc, Recorded::<Folder, Brand>::new(folder), 7) {
+        Err((_, disk)) => Ok(disk.into_calls()),
+        Ok((mut log, _)) => {
+            let _ended = log.begin_next(1, b"last");
+            Ok(log.into_disk().into_calls())
+        }
+    }
+}
+
+#[test]
+fn a_power_failure_leaves_a_log(rt: HostRuntime) -> Result<(), Fail> {
+    let alloc = rt.alloc();
+    for calls in 0..24 {
+        let folder = turned(alloc, calls)?;
+        for set in 0..4 {
+            assert_eq!(rt; open(alloc, &folder.image(set)?, 7), Ok(3));
+        }
+    }
+    Ok(())
+}

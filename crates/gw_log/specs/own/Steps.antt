@@ -44,3 +44,4 @@ Refuses file fault.Full = ⊥
 Refuses file fault.TooLong = ⊥
 Refuses file fault.Empty = ⊥
 Refuses file fault.Taken = ⊥
+Refuses file fault.Missing = ⊥

@@ -1,0 +1,313 @@
+-- What is found in a folder when a log is opened.
+use Rattle.std.proofs.Common.{◌≡◌, ◌≢◌, inl, inr, ⊎_elim, ℕ, ◌+◌, ◌-◌, ◌<◌, ◌≤◌, List, [], ◌∷◌, ◌++◌, length, drop, refl, sym, ◌∙◌, ap, subst, arith, append_assoc}
+use Rattle.std.specs.Prelude.{Vec, false}
+use Rattle.std.specs.declared.alloc.Global.{Global}
+use Rattle.std.proofs.lemmas.Bool.{cases_eq, cases_lt}
+use Rattle.gw_log.specs.Disk.{Files, Elapses, LeavesOnly, Only, AreEnds, Changes}
+use Rattle.gw_log.specs.File.{body, blocks, Has, HasRecordAt}
+use Rattle.gw_log.specs.State.{records_of, SegmentState, IsStaged}
+use Rattle.gw_log.specs.Chain.{Head, spelled, IsWide, AreSome, IsEnded, ended, AreBefore, none, more, IsUnborn, Origin, IsLast, IsLog, LogState, Holds}
+use Rattle.gw_log.specs.Opening.{BeginsAs, IsPlaced, AreLinked, IsSealed}
+use Rattle.gw_log.specs.own.Opens.{Reads, IsTrimmed, IsFound, IsTop}
+use Rattle.gw_log.specs.own.Steps.{UpTo}
+use Rattle.gw_log.proofs.Moments.{weaker, joined, stepped}
+use Rattle.gw_log.proofs.Ways.{first_same, one_way}
+use Rattle.gw_log.proofs.Logs.{before_le, before_same, no_file}
+use Rattle.gw_log.proofs.Placing.{same_numbers, some_there, has_ended, listless}
+
+module _ {D : Type 0} (seen : D → Files) (may_leave : D → Files → Type 0) (moment : D → ℕ) (left_since : D → ℕ → Files → Type 0) (honest : D → Type 0) where
+  pub one_read : (old new : D) → ((disk : D) (c : Files) → left_since disk (moment disk) c → may_leave disk c) → seen new ≡ seen old
+      → ((c : Files) → may_leave new c → may_leave old c) → Elapses moment left_since may_leave old new → (honest new → honest old)
+      → Reads seen may_leave moment left_since honest old new
+  one_read old new only same crash time back = record {
+    same = same;
+    crash = crash;
+    moments = stepped moment left_since may_leave old new (may_leave old) only time (λ c may. may) crash;
+    back = back;
+  }
+
+  pub read_on : (old mid new : D) → Reads seen may_leave moment left_since honest old mid → Reads seen may_leave moment left_since honest mid new
+      → Reads seen may_leave moment left_since honest old new
+  read_on old mid new first second = record {
+    same = second.same ∙ first.same;
+    crash = λ c may. first.crash c (second.crash c may);
+    moments = joined moment left_since old mid new (may_leave old) first.moments
+        (weaker moment left_since mid new (may_leave mid) (may_leave old) first.crash second.moments);
+    back = λ h. first.back (second.back h);
+  }
+
+-- ---- heads
+
+pub begins_as : (id number : ℕ) (h : Head) (bytes file : List ℕ) → HasRecordAt 0 bytes file → bytes ≡ spelled h → IsWide h → h.number ≡ number → h.id ≡ id
+    → BeginsAs id number h.first h.before h.oldest file
+begins_as id number h bytes file here is wide its_number its_id = record {
+  head = h;
+  wide = wide;
+  here = subst (λ b. HasRecordAt 0 b file) is here;
+  its_id = its_id;
+  its_number = its_number;
+  its_first = refl;
+  its_before = refl;
+  its_oldest = refl;
+}
+
+pub linked_one : (id n first before oldest : ℕ) (files : Files) → BeginsAs id n first before oldest (files n) → AreLinked id files n n
+linked_one id n first before oldest files begins = record {
+  before = before;
+  start = record { first = first; oldest = oldest; begins = begins };
+  next = λ m le lt. absurd (omega (arith, le, lt));
+}
+
+pub linked_more : (id start n first before oldest size : ℕ) (files : Files) → AreLinked id files start n → size ≡ length (files n) → before ≡ size
+    → BeginsAs id (n + 1) first before oldest (files (n + 1)) → AreLinked id files start (n + 1)
+linked_more id start n first before oldest size files linked is same begins = record {
+  before = linked.before;
+  start = linked.start;
+  next = λ m le lt. elim (cases_eq m n) [
+    | inl here ↦ subst (λ k. IsPlaced id (k + 1) (length (files k)) (files (k + 1))) (sym here)
+        (record { first = first; oldest = oldest; begins = subst (λ b. BeginsAs id (n + 1) first b oldest (files (n + 1))) (same ∙ is) begins })
+    | inr differs ↦ linked.next m le (omega (arith, lt, differs))
+  ];
+}
+
+-- ---- the last file
+
+not_sealed : (records front : List (List ℕ)) → AreSome records → records ≡ front ++ [] ∷ [] → ⊥
+not_sealed records [] some is = (subst AreSome is some).0 refl
+not_sealed records (r ∷ front) some is = not_sealed (front ++ [] ∷ []) front (subst AreSome is some).1 refl
+
+spelled_some : (h : Head) → spelled h ≢ []
+spelled_some h is = omega (arith, ap length is)
+
+last_open : (h : Head) (these records : List (List ℕ)) (file : List ℕ) → IsLast h these file → Has records file → IsSealed records → ⊥
+last_open h these records file last has sealed =
+    not_sealed (spelled h ∷ these) sealed.front (spelled_some h, last.some) (one_way file (spelled h ∷ these) records last.has has ∙ sealed.is)
+
+ended_sealed : (h : Head) (these records : List (List ℕ)) (file : List ℕ) → IsEnded h these file → Has records file → IsSealed records
+ended_sealed h these records file is has = record { front = spelled h ∷ these; is = one_way file records (ended h these) has (has_ended h these file is) }
+
+-- each file before the last is ended
+sealed_at : (id : ℕ) (files : Files) (last : Head) (n f b : ℕ) (front records : List (List ℕ)) (m : ℕ) → n ≤ m → m < last.number
+    → AreBefore id files last n f b front → Has records (files m) → IsSealed records
+sealed_at id files last n f b _ records m le lt (none _ _ _ fol) has = absurd (omega (arith, le, lt, fol.its_number))
+sealed_at id files last n f b _ records m le lt (more _ _ _ h these those fol is rest) has = elim (cases_eq m n) [
+  | inl here ↦ ended_sealed h these records (files n) is (subst (λ k. Has records (files k)) here has)
+  | inr differs ↦ sealed_at id files last (n + 1) (f + length these) (length (files n)) those records m (omega (arith, le, differs)) lt rest has
+]
+
+module _ (id : ℕ) (files : Files) (from : Origin) (records : List (List ℕ)) (log : IsLog id files from records) (first top : ℕ) (ends : AreEnds first top files) where
+  from_le : from.number ≤ log.head.number
+  from_le = before_le id files log.head from.number from.first from.before log.front log.ended
+
+  last_within : (first ≤ log.head.number) × (log.head.number ≤ top)
+  last_within = ends.within log.head.number (some_there id files from records log log.head.number from_le (omega arith))
+
+  first_within : (first ≤ from.number) × (from.number ≤ top)
+  first_within = ends.within from.number (some_there id files from records log from.number (omega arith) from_le)
+
+  pub least_is : from.number ≡ first
+  least_is = elim (cases_lt first from.number) [
+    | inl lt ↦ absurd (ends.low (omega (arith, first_within.0, first_within.1)) (log.none_below first lt))
+    | inr ge ↦ omega (arith, ge, first_within.0)
+  ]
+
+  top_near : top ≤ log.head.number + 1
+  top_near = elim (cases_lt (log.head.number + 1) top) [
+    | inl lt ↦ absurd (ends.high (omega (arith, first_within.0, first_within.1)) (log.none_above top lt))
+    | inr ge ↦ omega (arith, ge)
+  ]
+
+  -- where the file before the top one isn't ended, it is the last
+  pub former_last : (former : List (List ℕ)) (end : ℕ) → first < top → UpTo (files (top - 1)) end former → (IsSealed former → ⊥) → log.head.number ≡ top - 1
+  former_last former end lt up not = elim (cases_eq log.head.number top) [
+    | inl is ↦ absurd (not (sealed_at id files log.head from.number from.first from.before log.front former (top - 1) (omega (arith, lt, least_is))
+        (omega (arith, lt, is)) log.ended up.has))
+    | inr differs ↦ omega (arith, differs, last_within.1, top_near)
+  ]
+
+  -- where it is ended, the top one is
+  pub top_behind : (former : List (List ℕ)) (end : ℕ) → first < top → UpTo (files (top - 1)) end former → IsSealed former → log.head.number ≡ top
+  top_behind former end lt up sealed = elim (cases_eq log.head.number top) [
+    | inl is ↦ is
+    | inr differs ↦
+        let here : top - 1 ≡ log.head.number = omega (arith, differs, last_within.1, top_near) in
+        absurd (last_open log.head log.these former (files log.head.number) log.last (subst (λ k. Has former (files k)) here up.has) sealed)
+  ]
+
+  -- so it is where there is no other
+  pub top_alone : (first < top → ⊥) → log.head.number ≡ top
+  top_alone alone = elim (cases_lt first top) [
+    | inl lt ↦ absurd (alone lt)
+    | inr ge ↦ omega (arith, ge, last_within.0, last_within.1)
+  ]
+
+  -- and where it has more than a head
+  pub top_long : (rows : List (List ℕ)) (end : ℕ) → 1 < length rows → UpTo (files top) end rows → log.head.number ≡ top
+  top_long rows end long up = elim (cases_eq log.head.number top) [
+    | inl is ↦ is
+    | inr differs ↦
+        let here : top ≡ log.head.number + 1 = omega (arith, differs, last_within.1, top_near) in
+        let same = one_way (files (log.head.number + 1)) rows log.unborn.records (subst (λ k. Has rows (files k)) here up.has) log.unborn.has in
+        absurd (omega (arith, long, ap length same, log.unborn.at_most))
+  ]
+
+  pub found_so : (number f b o : ℕ) → log.head.number ≡ number → BeginsAs id number f b o (files number)
+      → IsFound id files from records log number f o first
+  found_so number f b o is begins =
+      let file = files log.head.number in
+      let begun : HasRecordAt 0 (spelled begins.head) file = subst (λ k. HasRecordAt 0 (spelled begins.head) (files k)) (sym is) begins.here in
+      let g = begins.head in
+      let h = log.head in
+      let last = log.last.has in
+      let whole : 1 ∷ body (spelled g) ++ drop (0 + length (1 ∷ body (spelled g))) file ≡ 1 ∷ body (spelled h) ++ (blocks log.these ++ last.end) =
+      sym begun.whole ∙ last.whole ∙ ap (λ (l : List ℕ). 1 ∷ l) (append_assoc (body (spelled h)) (blocks log.these) last.end) in
+      let same = first_same (spelled g) (spelled h) (drop (0 + length (1 ∷ body (spelled g))) file) (blocks log.these ++ last.end) begun.short last.short.0 whole in
+      let numbers = same_numbers g h begins.wide log.last.wide same.0 in
+      record {
+        its_number = is;
+        its_first = sym numbers.1 ∙ begins.its_first;
+        its_oldest = sym numbers.2 ∙ begins.its_oldest;
+        its_least = least_is;
+      }
+
+-- ---- what a crash leaves
+
+module _ (id : ℕ) (files : Files) (from : Origin) (records : List (List ℕ)) (log : IsLog id files from records) where
+  reach : from.number ≤ log.head.number
+  reach = before_le id files log.head from.number from.first from.before log.front log.ended
+
+  -- where the files before the last are the same, the last has the same, and none is born behind it, it is the same log
+  pub log_moved : (c : Files) → ((m : ℕ) → m < log.head.number → c m ≡ files m) → Has (spelled log.head ∷ log.these) (c log.head.number)
+      → IsUnborn (c (log.head.number + 1)) → ((m : ℕ) → log.head.number + 1 < m → c m ≡ []) → IsLog id c from records
+  log_moved c same has unborn above = record {
+    head = log.head;
+    front = log.front;
+    these = log.these;
+    ended = before_same id files c log.head from.number from.first from.before log.front same log.ended;
+    last = record { wide = log.last.wide; some = log.last.some; has = has };
+    all = log.all;
+    there = log.there;
+    none_below = λ m lt. same m (omega (arith, lt, reach)) ∙ log.none_below m lt;
+    unborn = unborn;
+    none_above = above;
+  }
+
+  pub log_same : (c : Files) → ((m : ℕ) → c m ≡ files m) → IsLog id c from records
+  log_same c same =
+      log_moved c (λ m lt. same m) (subst (λ f. Has (spelled log.head ∷ log.these) f) (sym (same log.head.number)) log.last.has)
+      (subst IsUnborn (sym (same (log.head.number + 1))) log.unborn) (λ m lt. same m ∙ log.none_above m lt)
+
+  module _ (last top : ℕ) (is : log.head.number ≡ last) (at : IsTop files last top) where
+    pub log_trimmed : (c : Files) → IsTrimmed last top files c → IsLog id c from records
+    log_trimmed c trimmed = ⊎_elim kept gone trimmed.here
+      where
+        kept : c top ≡ files top → IsLog id c from records
+        kept same = log_same c (λ m. elim (cases_eq m top) [
+          | inl here ↦ subst (λ k. c k ≡ files k) (sym here) same
+          | inr differs ↦ trimmed.others m differs
+        ])
+
+        gone : (top ≢ last) × (c top ≡ []) → IsLog id c from records
+        gone both =
+            let next : log.head.number + 1 ≡ top = omega (arith, is, both.0, at.low, at.high) in
+            log_moved c (λ m lt. trimmed.others m (λ here. omega (arith, here, lt, next)))
+            (subst (λ f. Has (spelled log.head ∷ log.these) f) (sym (trimmed.others log.head.number (λ here. omega (arith, here, next)))) log.last.has)
+            (no_file (c (log.head.number + 1)) (ap (λ (k : ℕ). c k) next ∙ both.1))
+            (λ m lt. trimmed.others m (λ here. omega (arith, here, next, lt)) ∙ log.none_above m lt)
+
+    -- the end of the last file is repaired, once the other is gone
+    pub log_repaired : (mid c : Files) (rows : List (List ℕ)) → ((m : ℕ) → m ≢ top → mid m ≡ files m) → (top ≢ last → mid top ≡ []) → Has rows (files last)
+        → Changes last (Has rows) mid c → IsLog id c from records
+    log_repaired mid c rows others gone has changes =
+        let rows_are = one_way (files log.head.number) rows (spelled log.head ∷ log.these) (subst (λ k. Has rows (files k)) (sym is) has) log.last.has in
+        log_moved c
+        (λ m lt. changes.others m (λ here. omega (arith, here, lt, is)) ∙ others m (λ here. omega (arith, here, lt, is, at.low)))
+        (subst (λ k. Has (spelled log.head ∷ log.these) (c k)) (sym is) (subst (λ l. Has l (c last)) rows_are changes.here))
+        (no_file (c (log.head.number + 1)) (clear (log.head.number + 1) (omega (arith, is))))
+        (λ m lt. clear m (omega (arith, lt, is)))
+      where
+        clear : (m : ℕ) → last < m → c m ≡ []
+        clear m lt = elim (cases_eq m top) [
+          | inl here ↦ changes.others m (λ same. omega (arith, same, lt)) ∙ ap (λ (k : ℕ). mid k) here ∙ gone (λ same. omega (arith, same, here, lt))
+          | inr differs ↦ changes.others m (λ same. omega (arith, same, lt)) ∙ others m differs ∙ at.none m (omega (arith, lt, differs, at.high))
+        ]
+
+-- ---- what was read before a step, of what is there after it
+
+pub up_same : (f g : Files) (n end : ℕ) (rows : List (List ℕ)) → f ≡ g → UpTo (f n) end rows → UpTo (g n) end rows
+up_same f g n end rows is up = subst (λ (h : Files). UpTo (h n) end rows) is up
+
+pub begins_same : (id n a b o : ℕ) (f g : Files) → f ≡ g → BeginsAs id n a b o (f n) → BeginsAs id n a b o (g n)
+begins_same id n a b o f g is begins = subst (λ (h : Files). BeginsAs id n a b o (h n)) is begins
+
+abbrev IsLastOf : (first top n : ℕ) → Files → Type 0
+IsLastOf first top n files = (id : ℕ) (from : Origin) (records : List (List ℕ)) (log : IsLog id files from records) → AreEnds first top files → log.head.number ≡ n
+
+pub last_same : (first top n : ℕ) (f g : Files) → f ≡ g → IsLastOf first top n f → IsLastOf first top n g
+last_same first top n f g is last = subst (IsLastOf first top n) is last
+
+pub top_so : (first top n : ℕ) (files : Files) → AreEnds first top files → n ≤ top → top ≤ n + 1 → IsTop files n top
+top_so first top n files ends low high = record {
+  low = low;
+  high = high;
+  none = λ m lt. listless (files m) (λ some. let within = ends.within m some in omega (arith, within.1, lt));
+}
+
+pub sealed_as : (a b : List (Vec ℕ Global)) → a ≡ b → IsSealed (records_of a) → IsSealed (records_of b)
+sealed_as a b is sealed = subst (λ l. IsSealed (records_of l)) is sealed
+
+pub only_read : {D : Type 0} (seen : D → Files) (may_leave : D → Files → Type 0) (moment : D → ℕ) (left_since : D → ℕ → Files → Type 0) (honest : D → Type 0) (old new : D)
+    → Reads seen may_leave moment left_since honest old new → Only (seen old) (may_leave old) → Only (seen new) (may_leave new)
+only_read seen may_leave moment left_since honest old new reads only c may m = only c (reads.crash c may) m ∙ sym (ap (λ (f : Files). f m) reads.same)
+
+pub trimmed_as : (last top : ℕ) (f g c : Files) → f ≡ g → IsTrimmed last top f c → IsTrimmed last top g c
+trimmed_as last top f g c is trimmed = subst (λ h. IsTrimmed last top h c) is trimmed
+
+pub last_kept : (last top : ℕ) (files was mid : Files) → was ≡ files → ((m : ℕ) → m ≢ top → mid m ≡ was m) → (top ≡ last → mid top ≡ was top) → files last ≡ mid last
+last_kept last top files was mid is others kept = sym (elim (cases_eq last top) [
+  | inl here ↦ subst (λ k. mid k ≡ was k) (sym here) (kept (sym here))
+  | inr differs ↦ others last differs
+] ∙ ap (λ (f : Files). f last) is)
+
+-- ---- the log
+
+module _ {D : Type 0} (seen : D → Files) (may_leave : D → Files → Type 0) (id : ℕ) (base : Files) (from : Origin) (records : List (List ℕ)) (log : IsLog id base from records)
+    (disk : D) (number end first oldest least count : ℕ) where
+  abbrev at : SegmentState D
+  at = record { disk = disk; number = number; end = end; reach = end; broken = false }
+
+  abbrev over : SegmentState D → LogState D
+  over segment = record { segment = segment; id = id; first = first; count = count; oldest = oldest; least = least }
+
+  pub opened : (s : SegmentState D) (rows : List (List ℕ)) → s ≡ at → Has rows (base number) → IsFound id base from records log number first oldest least
+      → IsStaged seen may_leave disk number end end rows [] → ((m : ℕ) → m < number → seen disk m ≡ base m) → ((m : ℕ) → number < m → seen disk m ≡ [])
+      → count ≡ length rows - 1 → Holds seen may_leave (over s) from records []
+  opened s rows is has found staged below above count_is =
+      let rows_are = one_way (base log.head.number) rows (spelled log.head ∷ log.these) (subst (λ k. Has rows (base k)) (sym found.its_number) has) log.last.has in
+      let low : from.number ≤ number = omega (arith, reach id base from records log, found.its_number) in
+      subst (λ t. Holds seen may_leave (over t) from records []) (sym is) (record {
+        head = log.head;
+        front = log.front;
+        these = log.these;
+        ended = before_same id base (seen disk) log.head from.number from.first from.before log.front (λ m lt. below m (omega (arith, lt, found.its_number))) log.ended;
+        wide = log.last.wide;
+        some = log.last.some;
+        fresh = tt;
+        stands = record { unbroken = refl; staged = subst (λ l. IsStaged seen may_leave disk number end end l []) rows_are staged };
+        number = found.its_number;
+        all = log.all;
+        there = log.there;
+        none_below = λ m lt. below m (omega (arith, lt, low)) ∙ log.none_below m lt;
+        none_above = λ m lt. above m (omega (arith, lt, found.its_number));
+        first = found.its_first;
+        count = omega (arith, count_is, ap length rows_are);
+        oldest = found.its_oldest;
+        least = found.its_least;
+      })
+
+pub none_behind : (files : Files) (last top : ℕ) → IsTop files last top → (n : ℕ) → last + 1 < n → files n ≡ []
+none_behind files last top at n lt = at.none n (omega (arith, lt, at.high))
+
+pub head_at : (id n k first before oldest : ℕ) (files : Files) → n ≡ k → BeginsAs id k first before oldest (files k)
+    → (length_before : ℕ) × BeginsAs id n first length_before oldest (files n)
+head_at id n k first before oldest files is begins = (before, subst (λ m. BeginsAs id m first before oldest (files m)) (sym is) begins)

@@ -1,0 +1,28 @@
+use Rattle.std.proofs.Common.{◌≡◌, ◌<◌, ℕ, length, refl, sym, subst, arith, ◌∙◌}
+use Rattle.std.specs.Prelude.{Vec}
+use Rattle.std.specs.declared.alloc.Global.{Global}
+use Rattle.std.proofs.lemmas.List.{length-map}
+use Rattle.gw_log.specs.State.{records_of}
+use Rattle.gw_log.proofs.Founding.{former_last, top_behind, top_alone, top_long, up_same, sealed_as}
+use Rattle.gw_log.proofs.opening.last_born.Goals.{then-len-le1+then-first-top+in_ok-former+else-not-is_sealed, else-len-le1, else-len-le1-via-then-len-le1+else-first-top, else-len-le1-via-else-len-le1}
+use Rattle.gw_log.proofs.opening.last_born.Goals as goal
+
+pub returns-then-not-is_sealed-clause-last : goal.returns-then-not-is_sealed-clause-last
+returns-then-not-is_sealed-clause-last g c = λ honest id from records log ends.
+    former_last _ _ _ _ log _ _ ends _ _ c.if-first-top.true (up_same _ _ _ _ _ c.read_file.ensures.reads.same (c.in_ok-former.ensures.up honest))
+    (λ sealed. c.if-not-is_sealed.ensures.not refl (sealed_as _ _ (sym c.deref.ensures.value) sealed))
+
+pub returns-clause-last : goal.returns-clause-last
+returns-clause-last g c = λ honest id from records log ends. elim c.if-len-le1.branch [
+  | then-len-le1+then-first-top+in_ok-former+else-not-is_sealed w ↦
+      top_behind _ _ _ _ log _ _ ends _ _ w.if-first-top.true
+      (up_same _ _ _ _ _ c.read_file.ensures.reads.same (w.in_ok-former.ensures.up (subst g.D.Disk.honest w.disk-is honest)))
+      (sealed_as _ _ w.deref.ensures.value (w.if-not-is_sealed.ensures.sealed refl))
+  | else-len-le1 w ↦ elim w.else-len-le1.branch [
+    | else-len-le1-via-then-len-le1+else-first-top w' ↦ top_alone _ _ _ _ log _ _ ends (λ lt. omega (arith, lt, w'.if-first-top.false))
+    | else-len-le1-via-else-len-le1 w' ↦
+        let rows = c.in_ok-records.records.items in
+        let long : 1 < length (records_of rows) = omega (arith, w'.if-len-le1.false, c.len.ensures, length-map rows (λ (v : Vec ℕ Global). v.items)) in
+        top_long _ _ _ _ log _ _ ends _ _ long (c.in_ok-records.ensures.up (subst g.D.Disk.honest w.disk-is honest))
+  ]
+]

@@ -1,0 +1,33 @@
+-- What the files of a folder say of each other, which is looked at when a log is opened.
+use Rattle.std.specs.Prelude.{◌≡◌, ℕ, ◌+◌, ◌<◌, ◌≤◌, List, [], ◌∷◌, ◌++◌, length}
+use Rattle.gw_log.specs.Disk.{Files}
+use Rattle.gw_log.specs.File.{Has, HasRecordAt}
+use Rattle.gw_log.specs.Chain.{Head, spelled, IsWide}
+
+-- the file begins with a head of this log and number, which says these
+pub record BeginsAs (id number first before oldest : ℕ) (file : List ℕ) : Type 0 where
+  pub head : Head
+  pub wide : IsWide head
+  pub here : HasRecordAt 0 (spelled head) file
+  pub its_id : head.id ≡ id
+  pub its_number : head.number ≡ number
+  pub its_first : head.first ≡ first
+  pub its_before : head.before ≡ before
+  pub its_oldest : head.oldest ≡ oldest
+
+-- it begins with one that follows on a file of this length
+pub record IsPlaced (id number before : ℕ) (file : List ℕ) : Type 0 where
+  pub first : ℕ
+  pub oldest : ℕ
+  pub begins : BeginsAs id number first before oldest file
+
+-- Each file from the first to the last begins with a head of this log and of its own number, which says how long the file before it is
+pub record AreLinked (id : ℕ) (files : Files) (first last : ℕ) : Type 0 where
+  pub before : ℕ
+  pub start : IsPlaced id first before (files first)
+  pub next : (n : ℕ) → first ≤ n → n < last → IsPlaced id (n + 1) (length (files n)) (files (n + 1))
+
+-- an empty record ends them
+pub record IsSealed (records : List (List ℕ)) : Type 0 where
+  pub front : List (List ℕ)
+  pub is : records ≡ front ++ [] ∷ []

@@ -1,0 +1,29 @@
+-- The steps in which a log is opened.
+use Rattle.std.specs.Prelude.{◌≡◌, ◌≢◌, ◌⊎◌, ℕ, ◌+◌, ◌<◌, ◌≤◌, List, [], length}
+use Rattle.gw_log.specs.Disk.{Files, LeavesOnly}
+use Rattle.gw_log.specs.Chain.{Origin, IsLog}
+
+-- A run of calls that only reads: the files are the same, and a crash leaves no more than before it, at any moment
+pub record Reads {D : Type 0} (seen : D → Files) (may_leave : D → Files → Type 0) (moment : D → ℕ) (left_since : D → ℕ → Files → Type 0) (honest : D → Type 0) (old new : D) : Type 0 where
+  pub same : seen new ≡ seen old
+  pub crash : (c : Files) → may_leave new c → may_leave old c
+  pub moments : LeavesOnly moment left_since old new (may_leave old)
+  pub back : honest new → honest old
+
+-- the file of the top number may be gone, unless it is the last
+pub record IsTrimmed (last top : ℕ) (old c : Files) : Type 0 where
+  pub others : (m : ℕ) → m ≢ top → c m ≡ old m
+  pub here : (c top ≡ old top) ⊎ ((top ≢ last) × (c top ≡ []))
+
+-- the folder's last file, what its head says, and the least number of a file are these
+pub record IsFound (id : ℕ) (files : Files) (from : Origin) (records : List (List ℕ)) (log : IsLog id files from records) (number first oldest least : ℕ) : Type 0 where
+  pub its_number : log.head.number ≡ number
+  pub its_first : log.head.first ≡ first
+  pub its_oldest : log.head.oldest ≡ oldest
+  pub its_least : from.number ≡ least
+
+-- no file but that of the top number stands behind the last one, and that next to it
+pub record IsTop (files : Files) (last top : ℕ) : Type 0 where
+  pub low : last ≤ top
+  pub high : top ≤ last + 1
+  pub none : (m : ℕ) → top < m → files m ≡ []

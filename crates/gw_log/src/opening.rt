@@ -1,0 +1,245 @@
+//! What is found in a folder when a log is opened, and what a crash left there that has to go.
+ghost use Rattle.std.specs.Prelude.{◌≡◌, ◌≢◌, ◌+◌, ◌<◌, ◌≤◌, [], List, ℕ, length, IfOk, OnOk, IsErrOf, IsTrue, IsFalse};
+ghost use Rattle.gw_log.specs.Chain.{Origin, IsLog};
+ghost use Rattle.gw_log.specs.Disk.{Files, Only, LeavesOnly, AreEnds};
+ghost use Rattle.gw_log.specs.File.{Has};
+ghost use Rattle.gw_log.specs.Opening.{BeginsAs, AreLinked, IsSealed};
+ghost use Rattle.gw_log.specs.State.{IsStaged, records_of};
+ghost use Rattle.gw_log.specs.own.Opens.{Reads, IsTrimmed, IsFound, IsTop};
+ghost use Rattle.gw_log.specs.own.Steps.{UpTo};
+
+use crate::disk::{Disk, DiskFault};
+use crate::fault::LogFault;
+use crate::head::read_head;
+use crate::reading::{read_records, record_at};
+use crate::segment::read_all;
+use crate::steps;
+use std::alloc::Global;
+
+/// What the head of a file says, but for the file's number and the log's.
+#[derive(Clone, Copy)]
+pub(crate) struct Place {
+    pub first: u64,
+    pub before: u64,
+    pub oldest: u64,
+}
+
+/// The last file of a folder: its number, its records, where they end, what its head says, and the least number of a file.
+#[derive(Drop)]
+pub(crate) struct Found {
+    pub number: u64,
+    pub records: Vec<Vec<u8>>,
+    pub end: usize,
+    pub place: Place,
+    pub least: u64,
+    pub top: u64,
+}
+
+// The records of a file, and where they end. It stays as it is.
+fn read_file<D: Disk>(
+    alloc: Global,
+    disk: &mut D,
+    number: u64,
+) -> Result<(Vec<Vec<u8>>, usize), LogFault>
+    ensures up { D.honest disk.new → IfOk result (λ r.
+        UpTo (D.seen disk.old number) r.1 (records_of r.0.items)) }
+    ensures reads { Reads D.seen D.may_leave D.moment D.left_since D.honest disk.old disk.new }
+    ensures missing { IsErrOf result LogFault.Missing → ⊥ }
+{
+    let bytes = read_all(alloc, disk, number)?;
+    read_records(alloc, number, &bytes)
+}
+
+// Whether an empty record ends them.
+fn is_sealed(records: &[Vec<u8>]) -> bool
+    ensures sealed { IsTrue result → IsSealed (records_of records.now) }
+    ensures not { IsFalse result → IsSealed (records_of records.now) → ⊥ }
+{
+    let size = records.len();
+    if size == 0 {
+        return false;
+    }
+    records[size - 1].is_empty()
+}
+
+// What the head of a file says, which has to be of this log and of the file's own number.
+fn head_of<D: Disk>(alloc: Global, disk: &mut D, id: u64, number: u64) -> Result<Place, LogFault>
+    ensures begins { D.honest disk.new → IfOk result (λ p.
+        BeginsAs id number p.first p.before p.oldest (D.seen disk.old number)) }
+    ensures reads { Reads D.seen D.may_leave D.moment D.left_since D.honest disk.old disk.new }
+    ensures missing { IsErrOf result LogFault.Missing → ⊥ }
+{
+    let bytes = record_at(alloc, disk, number, 0)?;
+    let misplaced = LogFault::Damaged {
+        segment: number,
+        at: 0,
+    };
+    let Some(head) = read_head(&bytes) else {
+        return Err(misplaced);
+    };
+    if head.number != number || head.id != id {
+        return Err(misplaced);
+    }
+    Ok(Place {
+        first: head.first,
+        before: head.before,
+        oldest: head.oldest,
+    })
+}
+
+// What the head of the last file says. Each file from the first on has to have the head that follows on the file before it.
+fn linked<D: Disk>(
+    alloc: Global,
+    disk: &mut D,
+    id: u64,
+    first: u64,
+    last: u64,
+) -> Result<Place, LogFault>
+    requires { first ≤ last }
+    ensures begins { D.honest disk.new → IfOk result (λ p.
+        BeginsAs id last p.first p.before p.oldest (D.seen disk.old last)) }
+    ensures linked { D.honest disk.new → OnOk result (AreLinked id (D.seen disk.old) first last) }
+    ensures there { IfOk result (λ p. first ≤ p.oldest) }
+    ensures reads { Reads D.seen D.may_leave D.moment D.left_since D.honest disk.old disk.new }
+    ensures missing { IsErrOf result LogFault.Missing → ⊥ }
+{
+    let mut place = head_of(alloc, disk, id, first)?;
+    let mut number = first;
+    while number < last {
+        let size = disk.size(number)?;
+        let next = head_of(alloc, disk, id, number + 1)?;
+        if next.before != size as u64 {
+            return Err(LogFault::Damaged {
+                segment: number,
+                at: size,
+            });
+        }
+        place = next;
+        number += 1;
+    }
+    if place.oldest < first {
+        return Err(LogFault::Damaged {
+            segment: place.oldest,
+            at: 0,
+        });
+    }
+    Ok(place)
+}
+
+// The last file that was born, of those from the first to the top: its number, its records, and where they end.
+fn last_born<D: Disk>(
+    alloc: Global,
+    disk: &mut D,
+    first: u64,
+    top: u64,
+) -> Result<(u64, Vec<Vec<u8>>, usize), LogFault>
+    requires { first ≤ top }
+    ensures up { D.honest disk.new → IfOk result (λ r.
+        UpTo (D.seen disk.old r.0) r.2 (records_of r.1.items)) }
+    ensures last { D.honest disk.new → IfOk result (λ r.
+        (id : ℕ) (from : Origin) (records : List (List ℕ)) (log : IsLog id (D.seen disk.old) from records) →
+        AreEnds first top (D.seen disk.old) → log.head.number ≡ r.0) }
+    ensures low { IfOk result (λ r. first ≤ r.0) }
+    ensures near { IfOk result (λ r. r.0 ≤ top) }
+    ensures next { IfOk result (λ r. top ≤ r.0 + 1) }
+    ensures open { IfOk result (λ r. IsSealed (records_of r.1.items) → ⊥) }
+    ensures reads { Reads D.seen D.may_leave D.moment D.left_since D.honest disk.old disk.new }
+    ensures missing { IsErrOf result LogFault.Missing → ⊥ }
+{
+    let (records, end) = read_file(alloc, disk, top)?;
+    if records.len() <= 1 && first < top {
+        let (former, former_end) = read_file(alloc, disk, top - 1)?;
+        if !is_sealed(&former) {
+            return Ok((top - 1, former, former_end));
+        }
+    }
+    if is_sealed(&records) {
+        return Err(LogFault::Damaged {
+            segment: top.saturating_add(1),
+            at: 0,
+        });
+    }
+    Ok((top, records, end))
+}
+
+// The last file of a folder. Nothing is changed.
+fn find<D: Disk>(alloc: Global, disk: &mut D, id: u64) -> Result<Found, LogFault>
+    ensures up { D.honest disk.new → IfOk result (λ f.
+        UpTo (D.seen disk.old f.number) f.end (records_of f.records.items)) }
+    ensures found { D.honest disk.new → IfOk result (λ f.
+        (from : Origin) (records : List (List ℕ)) (log : IsLog id (D.seen disk.old) from records) →
+        IsFound id (D.seen disk.old) from records log f.number f.place.first f.place.oldest f.least) }
+    ensures linked { D.honest disk.new → IfOk result (λ f. AreLinked id (D.seen disk.old) f.least f.number) }
+    ensures head { D.honest disk.new → IfOk result (λ f.
+        BeginsAs id f.number f.place.first f.place.before f.place.oldest (D.seen disk.old f.number)) }
+    ensures there { IfOk result (λ f. f.least ≤ f.place.oldest) }
+    ensures top { D.honest disk.new → IfOk result (λ f. IsTop (D.seen disk.old) f.number f.top) }
+    ensures open { IfOk result (λ f. IsSealed (records_of f.records.items) → ⊥) }
+    ensures missing { D.honest disk.new → IsErrOf result LogFault.Missing → (n : ℕ) → D.seen disk.old n ≡ [] }
+    ensures reads { Reads D.seen D.may_leave D.moment D.left_since D.honest disk.old disk.new }
+{
+    let (least, top) = disk.ends()?;
+    if top < least {
+        return Err(LogFault::Missing);
+    }
+    let (number, records, end) = last_born(alloc, disk, least, top)?;
+    let place = linked(alloc, disk, id, least, number)?;
+    Ok(Found {
+        number,
+        records,
+        end,
+        place,
+        least,
+        top,
+    })
+}
+
+// Removes the top file, unless it is the last.
+fn trim<D: Disk>(disk: &mut D, last: u64, top: u64) -> Result<(), DiskFault>
+    ensures only { Only (D.seen disk.old) (D.may_leave disk.old) →
+        OnOk result (Only (D.seen disk.new) (D.may_leave disk.new)) }
+    ensures others { OnOk result ((m : ℕ) → m ≢ top → D.seen disk.new m ≡ D.seen disk.old m) }
+    ensures gone { OnOk result (top ≢ last → D.seen disk.new top ≡ []) }
+    ensures kept { OnOk result (top ≡ last → D.seen disk.new top ≡ D.seen disk.old top) }
+    ensures any_moment { Only (D.seen disk.old) (D.may_leave disk.old) →
+        LeavesOnly D.moment D.left_since disk.old disk.new (IsTrimmed last top (D.seen disk.old)) }
+    ensures back { D.honest disk.new → D.honest disk.old }
+{
+    if top == last {
+        return Ok(());
+    }
+    steps::remove(disk, top)
+}
+
+/// The last file of a folder, which is as it was before a crash tore its end.
+pub(crate) fn open_folder<D: Disk>(alloc: Global, disk: &mut D, id: u64) -> Result<Found, LogFault>
+    requires { Only (D.seen disk.old) (D.may_leave disk.old) }
+    ensures has { D.honest disk.new → IfOk result (λ f.
+        Has (records_of f.records.items) (D.seen disk.old f.number)) }
+    ensures staged { D.honest disk.new → IfOk result (λ f.
+        IsStaged D.seen D.may_leave disk.new f.number f.end f.end (records_of f.records.items) []) }
+    ensures found { D.honest disk.new → IfOk result (λ f.
+        (from : Origin) (records : List (List ℕ)) (log : IsLog id (D.seen disk.old) from records) →
+        IsFound id (D.seen disk.old) from records log f.number f.place.first f.place.oldest f.least) }
+    ensures below { D.honest disk.new → IfOk result (λ f.
+        (m : ℕ) → m < f.number → D.seen disk.new m ≡ D.seen disk.old m) }
+    ensures above { D.honest disk.new → IfOk result (λ f. (m : ℕ) → f.number < m → D.seen disk.new m ≡ []) }
+    ensures linked { D.honest disk.new → IfOk result (λ f. AreLinked id (D.seen disk.old) f.least f.number) }
+    ensures head { D.honest disk.new → IfOk result (λ f.
+        BeginsAs id f.number f.place.first f.place.before f.place.oldest (D.seen disk.old f.number)) }
+    ensures there { IfOk result (λ f. f.least ≤ f.place.oldest) }
+    ensures behind { D.honest disk.new → IfOk result (λ f. IsTop (D.seen disk.old) f.number f.top) }
+    ensures open { IfOk result (λ f. IsSealed (records_of f.records.items) → ⊥) }
+    ensures any_moment { D.honest disk.new → (from : Origin) (records : List (List ℕ)) →
+        IsLog id (D.seen disk.old) from records →
+        LeavesOnly D.moment D.left_since disk.old disk.new (λ c. IsLog id c from records) }
+    ensures untouched { (segment at : ℕ) → IsErrOf result (LogFault.Damaged segment at) →
+        Only (D.seen disk.old) (D.may_leave disk.new) }
+    ensures missing { D.honest disk.new → IsErrOf result LogFault.Missing → (n : ℕ) → D.seen disk.old n ≡ [] }
+    ensures back { D.honest disk.new → D.honest disk.old }
+{
+    let found = find(alloc, disk, id)?;
+    trim(disk, found.number, found.top)?;
+    steps::repair(disk, found.number, found.end)?;
+    Ok(found)
+}
