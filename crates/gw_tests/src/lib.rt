@@ -25,6 +25,7 @@ mod journals;
 mod locked;
 #[cfg(test)]
 mod logs;
+#[cfg(test)]
 mod maps;
 #[cfg(test)]
 mod messages;

@@ -4,4 +4,4 @@ use Rattle.hl7gate.proofs.Crossing.{Service-sync}
 use Rattle.hl7gate.proofs.hands.fn.with_workers.scope.Goals as goal
 
 pub spawn-requires-send-F : goal.spawn-requires-send-F
-spawn-requires-send-F g c κs within = search (Service-sync, c, crosses, sendable) depth 60 fits 50000
+spawn-requires-send-F g c κs within = search (Service-sync, c.requires, crosses, sendable) depth 60 fits 50000

@@ -5,4 +5,4 @@ use Rattle.hl7gate.proofs.gateway.hub.Hub.TheSendSync as hub
 use Rattle.hl7gate.proofs.gateway.rounds.fn.with_workers.scope.Goals as goal
 
 pub spawn-requires-send-F : goal.spawn-requires-send-F
-spawn-requires-send-F g c κs within = search (Service-sync, hub.the_sync, c, crosses, sendable) depth 60 fits 50000
+spawn-requires-send-F g c κs within = search (Service-sync, hub.the_sync, c.requires, crosses, sendable) depth 60 fits 50000
