@@ -4,7 +4,7 @@ use Rattle.gw_check.specs.Checked.{least}
 use Rattle.gw_check.specs.Kept.{IsChecked}
 use Rattle.gw_resolve.specs.Seen.{failure, failures}
 use Rattle.gw_resolve.specs.declared.failure.Failure.{Failure}
-use Rattle.gw_check.proofs.rules.examine.Goals as goal
+use Rattle.gw_check.proofs.rules.examine_by.Goals as goal
 
 -- where there is none, there are no failures
 none_least : (l : List Failure) → None ≡ least (failures l) → l ≡ []
