@@ -79,7 +79,7 @@ not_sealed records (r ∷ front) some is = not_sealed (front ++ [] ∷ []) front
 spelled_some : (h : Head) → spelled h ≢ []
 spelled_some h is = omega (arith, ap length is)
 
-last_open : (h : Head) (these records : List (List ℕ)) (file : List ℕ) → IsLast h these file → Has records file → IsSealed records → ⊥
+pub last_open : (h : Head) (these records : List (List ℕ)) (file : List ℕ) → IsLast h these file → Has records file → IsSealed records → ⊥
 last_open h these records file last has sealed =
     not_sealed (spelled h ∷ these) sealed.front (spelled_some h, last.some) (one_way file (spelled h ∷ these) records last.has has ∙ sealed.is)
 
@@ -99,10 +99,10 @@ module _ (id : ℕ) (files : Files) (from : Origin) (records : List (List ℕ)) 
   from_le : from.number ≤ log.head.number
   from_le = before_le id files log.head from.number from.first from.before log.front log.ended
 
-  last_within : (first ≤ log.head.number) × (log.head.number ≤ top)
+  pub last_within : (first ≤ log.head.number) × (log.head.number ≤ top)
   last_within = ends.within log.head.number (some_there id files from records log log.head.number from_le (omega arith))
 
-  first_within : (first ≤ from.number) × (from.number ≤ top)
+  pub first_within : (first ≤ from.number) × (from.number ≤ top)
   first_within = ends.within from.number (some_there id files from records log from.number (omega arith) from_le)
 
   pub least_is : from.number ≡ first
@@ -111,7 +111,7 @@ module _ (id : ℕ) (files : Files) (from : Origin) (records : List (List ℕ)) 
     | inr ge ↦ omega (arith, ge, first_within.0)
   ]
 
-  top_near : top ≤ log.head.number + 1
+  pub top_near : top ≤ log.head.number + 1
   top_near = elim (cases_lt (log.head.number + 1) top) [
     | inl lt ↦ absurd (ends.high (omega (arith, first_within.0, first_within.1)) (log.none_above top lt))
     | inr ge ↦ omega (arith, ge)
@@ -166,7 +166,7 @@ module _ (id : ℕ) (files : Files) (from : Origin) (records : List (List ℕ)) 
       record {
         its_number = is;
         its_first = sym numbers.1 ∙ begins.its_first;
-        its_oldest = sym numbers.2 ∙ begins.its_oldest;
+        its_oldest = sym numbers.3 ∙ begins.its_oldest;
         its_least = least_is;
       }
 

@@ -169,6 +169,10 @@ impl<D: Disk> Log<D> {
         ensures any_moment_err { IfErr result (λ e. D.honest e.1 → (from : Origin) (records : List (List ℕ)) →
             IsLog id (D.seen disk) from records →
             LeavesOnly D.moment D.left_since disk e.1 (λ c. IsLog id c from records)) }
+        // A log isn't reported damaged.
+        ensures damaged { IfErr result (λ e. D.honest e.1 → (segment at : ℕ) →
+            e.0 ≡ LogFault.Damaged segment at → (from : Origin) (records : List (List ℕ)) →
+            IsLog id (D.seen disk) from records → ⊥) }
         ensures untouched { IfErr result (λ e. (segment at : ℕ) →
             e.0 ≡ LogFault.Damaged segment at → Only (D.seen disk) (D.may_leave e.1)) }
         ensures missing { IfErr result (λ e. D.honest e.1 → e.0 ≡ LogFault.Missing → (n : ℕ) → D.seen disk n ≡ []) }

@@ -2,10 +2,10 @@
 ghost use Rattle.std.specs.Prelude.{◌≡◌, ◌≢◌, ◌+◌, ◌<◌, ◌≤◌, [], List, ℕ, length, IfOk, OnOk, IsErrOf, IsTrue, IsFalse};
 ghost use Rattle.gw_log.specs.Chain.{Origin, IsLog};
 ghost use Rattle.gw_log.specs.Disk.{Files, Only, LeavesOnly, AreEnds};
-ghost use Rattle.gw_log.specs.File.{Has};
+ghost use Rattle.gw_log.specs.File.{Has, IsDamagedAt};
 ghost use Rattle.gw_log.specs.Opening.{BeginsAs, AreLinked, IsSealed};
 ghost use Rattle.gw_log.specs.State.{IsStaged, records_of};
-ghost use Rattle.gw_log.specs.own.Opens.{Reads, IsTrimmed, IsFound, IsTop};
+ghost use Rattle.gw_log.specs.own.Opens.{Reads, IsTrimmed, IsFound, IsTop, HasNoHead};
 ghost use Rattle.gw_log.specs.own.Steps.{UpTo};
 
 use crate::disk::{Disk, DiskFault};
@@ -43,6 +43,8 @@ fn read_file<D: Disk>(
 ) -> Result<(Vec<Vec<u8>>, usize), LogFault>
     ensures up { D.honest disk.new → IfOk result (λ r.
         UpTo (D.seen disk.old number) r.1 (records_of r.0.items)) }
+    ensures damaged { D.honest disk.new → (segment at : ℕ) → IsErrOf result (LogFault.Damaged segment at) →
+        IsDamagedAt at (D.seen disk.old number) }
     ensures reads { Reads D.seen D.may_leave D.moment D.left_since D.honest disk.old disk.new }
     ensures missing { IsErrOf result LogFault.Missing → ⊥ }
 {
@@ -66,6 +68,8 @@ fn is_sealed(records: &[Vec<u8>]) -> bool
 fn head_of<D: Disk>(alloc: Global, disk: &mut D, id: u64, number: u64) -> Result<Place, LogFault>
     ensures begins { D.honest disk.new → IfOk result (λ p.
         BeginsAs id number p.first p.before p.oldest (D.seen disk.old number)) }
+    ensures damaged { D.honest disk.new → (segment at : ℕ) → IsErrOf result (LogFault.Damaged segment at) →
+        HasNoHead id number (D.seen disk.old number) }
     ensures reads { Reads D.seen D.may_leave D.moment D.left_since D.honest disk.old disk.new }
     ensures missing { IsErrOf result LogFault.Missing → ⊥ }
 {
@@ -100,6 +104,9 @@ fn linked<D: Disk>(
         BeginsAs id last p.first p.before p.oldest (D.seen disk.old last)) }
     ensures linked { D.honest disk.new → OnOk result (AreLinked id (D.seen disk.old) first last) }
     ensures there { IfOk result (λ p. first ≤ p.oldest) }
+    ensures damaged { D.honest disk.new → (segment at : ℕ) → IsErrOf result (LogFault.Damaged segment at) →
+        (from : Origin) (records : List (List ℕ)) (log : IsLog id (D.seen disk.old) from records) →
+        from.number ≡ first → log.head.number ≡ last → ⊥ }
     ensures reads { Reads D.seen D.may_leave D.moment D.left_since D.honest disk.old disk.new }
     ensures missing { IsErrOf result LogFault.Missing → ⊥ }
 {
@@ -143,6 +150,9 @@ fn last_born<D: Disk>(
     ensures near { IfOk result (λ r. r.0 ≤ top) }
     ensures next { IfOk result (λ r. top ≤ r.0 + 1) }
     ensures open { IfOk result (λ r. IsSealed (records_of r.1.items) → ⊥) }
+    ensures damaged { D.honest disk.new → (segment at : ℕ) → IsErrOf result (LogFault.Damaged segment at) →
+        (id : ℕ) (from : Origin) (records : List (List ℕ)) → IsLog id (D.seen disk.old) from records →
+        AreEnds first top (D.seen disk.old) → ⊥ }
     ensures reads { Reads D.seen D.may_leave D.moment D.left_since D.honest disk.old disk.new }
     ensures missing { IsErrOf result LogFault.Missing → ⊥ }
 {
@@ -176,6 +186,8 @@ fn find<D: Disk>(alloc: Global, disk: &mut D, id: u64) -> Result<Found, LogFault
     ensures top { D.honest disk.new → IfOk result (λ f. IsTop (D.seen disk.old) f.number f.top) }
     ensures open { IfOk result (λ f. IsSealed (records_of f.records.items) → ⊥) }
     ensures missing { D.honest disk.new → IsErrOf result LogFault.Missing → (n : ℕ) → D.seen disk.old n ≡ [] }
+    ensures damaged { D.honest disk.new → (segment at : ℕ) → IsErrOf result (LogFault.Damaged segment at) →
+        (from : Origin) (records : List (List ℕ)) → IsLog id (D.seen disk.old) from records → ⊥ }
     ensures reads { Reads D.seen D.may_leave D.moment D.left_since D.honest disk.old disk.new }
 {
     let (least, top) = disk.ends()?;
@@ -233,6 +245,8 @@ pub(crate) fn open_folder<D: Disk>(alloc: Global, disk: &mut D, id: u64) -> Resu
     ensures any_moment { D.honest disk.new → (from : Origin) (records : List (List ℕ)) →
         IsLog id (D.seen disk.old) from records →
         LeavesOnly D.moment D.left_since disk.old disk.new (λ c. IsLog id c from records) }
+    ensures damaged { D.honest disk.new → (segment at : ℕ) → IsErrOf result (LogFault.Damaged segment at) →
+        (from : Origin) (records : List (List ℕ)) → IsLog id (D.seen disk.old) from records → ⊥ }
     ensures untouched { (segment at : ℕ) → IsErrOf result (LogFault.Damaged segment at) →
         Only (D.seen disk.old) (D.may_leave disk.new) }
     ensures missing { D.honest disk.new → IsErrOf result LogFault.Missing → (n : ℕ) → D.seen disk.old n ≡ [] }

@@ -1,7 +1,7 @@
 -- The steps in which a log is opened.
 use Rattle.std.specs.Prelude.{◌≡◌, ◌≢◌, ◌⊎◌, ℕ, ◌+◌, ◌<◌, ◌≤◌, List, [], length}
 use Rattle.gw_log.specs.Disk.{Files, LeavesOnly}
-use Rattle.gw_log.specs.Chain.{Origin, IsLog}
+use Rattle.gw_log.specs.Chain.{Origin, IsLog, HasHead}
 
 -- A run of calls that only reads: the files are the same, and a crash leaves no more than before it, at any moment
 pub record Reads {D : Type 0} (seen : D → Files) (may_leave : D → Files → Type 0) (moment : D → ℕ) (left_since : D → ℕ → Files → Type 0) (honest : D → Type 0) (old new : D) : Type 0 where
@@ -27,3 +27,7 @@ pub record IsTop (files : Files) (last top : ℕ) : Type 0 where
   pub low : last ≤ top
   pub high : top ≤ last + 1
   pub none : (m : ℕ) → top < m → files m ≡ []
+
+-- the file has no head of this log and number
+abbrev pub HasNoHead : (id number : ℕ) → List ℕ → Type 0
+HasNoHead id number file = (before : ℕ) → HasHead id number before file → ⊥
