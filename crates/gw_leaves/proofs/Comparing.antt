@@ -19,13 +19,14 @@ use Rattle.gw_profile.specs.Value.{table_of as table_in}
 use Rattle.gw_profile.proofs.Facts.{both}
 use Rattle.gw_maplang.specs.Seen.{now}
 use Rattle.gw_maplang.specs.Shapes as maps
+use Rattle.gw_leaves.specs.declared.comparison.Found.{Found}
 use Rattle.gw_leaves.specs.declared.given.LeafSource.{LeafSource}
 use Rattle.gw_leaves.specs.Components.{table_values}
 use Rattle.gw_leaves.specs.Context.{ContextValue}
 use Rattle.gw_leaves.specs.Leaves.{listed, is_short, given, sub_values, has_no_row, may_be_unlisted, may_be_long}
 use Rattle.gw_leaves.specs.Texts.{items_all}
 use Rattle.gw_leaves.specs.own.Held.{given_texts}
-use Rattle.gw_leaves.specs.own.Comparisons.{table_texts, values_named, rows_named, rowed, table_of, len_of, some_unrowed, is_unrowed, Origin, is_any, texts_in, given_at, given_by, all_given, fits, exceeds, is_outside, is_outside_named, holds_of, Lengths, size_of, some_length, Adds, AreOfValues, AreOfRows, some_values, Comparison, names_eq, comparisons_eq, IsCompared, AreKept}
+use Rattle.gw_leaves.specs.own.Comparisons.{table_texts, values_named, rows_named, rowed, table_of, len_of, some_unrowed, is_unrowed, Origin, is_any, texts_in, given_at, given_by, all_given, fits, exceeds, is_outside, is_outside_named, holds_of, Lengths, size_of, some_length, Adds, AreOfValues, AreOfRows, AreUnlisted, AreLookedUp, Asks, some_values, Comparison, names_eq, comparisons_eq, IsCompared, IsFound, IsListed, AreKept, AreLists, Sized, is_lacking, is_missing, is_within, unrowed_by, IsListing, IsShortest}
 use Rattle.gw_leaves.proofs.Inserted.{any_map, inserted}
 
 -- of a slice of texts
@@ -102,7 +103,7 @@ module _ (s : ContextValue) (c : Comparison) (to : Count) (there : Option (Bor (
 
   pub of_all : {S E : Type 0} (made : Result (IndexSet (ℕ × ℕ) S) E) → c.0.1 ≡ None → IfOk made (λ l. AreOfRows to (some_values there) rows l.keys) → IfOk made (λ l. IsCompared s c l.keys)
   of_all (Err x) none h = tt
-  of_all (Ok l) none h = λ len most.
+  of_all (Ok l) none h = λ len most asks.
       h len most
       ∙ (λ i. list_any (is_outside (target i) (unwrap_or (asked i) []) most) (all_given (looked i)))
       ∙ by len most (now c.0.0)
@@ -115,7 +116,7 @@ module _ (s : ContextValue) (c : Comparison) (to : Count) (there : Option (Bor (
   pub of_listed : {S E : Type 0} (count : Count) (table : Bor (List ℕ)) (texts : List (Vec ℕ)) (made : Result (IndexSet (ℕ × ℕ) S) E) → count ≡ s.source.count → c.0.1 ≡ Some table
       → items_all texts ≡ values_named s.source.tables (Some table.now) → IfOk made (λ l. AreOfValues (Some count) to (some_values there) rows texts l.keys) → IfOk made (λ l. IsCompared s c l.keys)
   of_listed count table texts (Err x) e some is h = tt
-  of_listed count table texts (Ok l) e some is h = λ len most.
+  of_listed count table texts (Ok l) e some is h = λ len most asks.
       let all = values_named s.source.tables (Some table.now) in
       let short = is_short s.source.count len in
       h len most
@@ -125,6 +126,41 @@ module _ (s : ContextValue) (c : Comparison) (to : Count) (there : Option (Bor (
       ∙ any_given (p most) short s.map.tables (now c.0.0) all
       ∙ (λ i. list_any (p most) (given_at s (now c.0.0) (now (sym some i)) len))
 
+  pub of_looked : {S E : Type 0} (count : Count) (table : Bor (List ℕ)) (all : List (List ℕ)) (found : maps.Rows) (made : Result (IndexSet (ℕ × ℕ) S) E) → count ≡ s.source.count → c.0.1 ≡ Some table
+      → all ≡ values_named s.source.tables (Some table.now) → rows ≡ Some found → IfOk made (λ l. AreLookedUp count to (some_values there) found all l.keys) → IfOk made (λ l. IsCompared s c l.keys)
+  of_looked count table all found (Err x) e some is found_is h = tt
+  of_looked count table all found (Ok l) e some is found_is h = λ len most asks.
+      let short = is_short s.source.count len in
+      let listed = values_named s.source.tables (Some table.now) in
+      h len most
+      ∙ (λ i. list_any (λ t. fits len (measure (e i) t) && holds_of (is_outside (target i) (unwrap_or (asked i) []) most) (given_by (sym found_is i) t)) (is i))
+      ∙ ap (λ r. list_any (λ t. fits len (measure s.source.count t) && holds_of (p most) (given_by r t)) listed) looked
+      ∙ ap (λ q. list_any (λ t. q t && holds_of (p most) (given_by (option_map (rows_named s.map.tables) (now c.0.0)) t)) listed) (shortness s.source.count len)
+      ∙ any_given (p most) short s.map.tables (now c.0.0) listed
+      ∙ (λ i. list_any (p most) (given_at s (now c.0.0) (now (sym some i)) len))
+
+  -- against a table that is named: the shortest text that this lacks
+  pub of_missing : {S E : Type 0} (table name : Bor (List ℕ)) (sizes : List Sized) (made : Result (IndexSet (ℕ × ℕ) S) E) → c.0.1 ≡ Some table → c.1 ≡ Some name → rows ≡ None
+      → IsListed s c.0.1 sizes → IfOk made (λ l. AreUnlisted (some_values there) sizes l.keys) → IfOk made (λ l. IsCompared s c l.keys)
+  of_missing table name sizes (Err x) some named none listing h = tt
+  of_missing table name sizes (Ok l) some named none listing h = λ len most asks.
+      let least : most ≡ None = asks (ap (λ n. is_some (now n)) named) in
+      let listed = values_named s.source.tables (now c.0.1) in
+      ap (λ m. some_length len m l.keys) least
+      ∙ h len
+      ∙ listing (is_missing (some_values there)) len
+      ∙ (λ i. list_any (λ t. fits len (measure s.source.count t) && is_outside s.target.count (unwrap_or (asked i) []) (sym least i) t) listed)
+      ∙ ap (λ r. list_any (λ t. fits len (measure s.source.count t) && holds_of (p most) (given_by r t)) listed) (sym none ∙ looked)
+      ∙ ap (λ q. list_any (λ t. q t && holds_of (p most) (given_by (option_map (rows_named s.map.tables) (now c.0.0)) t)) listed) (shortness s.source.count len)
+      ∙ any_given (p most) (is_short s.source.count len) s.map.tables (now c.0.0) listed
+      ∙ by len most (now c.0.0) (now c.0.1) (ap (λ t. is_some (now t)) some)
+    where
+      by : (len most : Option ℕ) (rows table : Option (List ℕ)) → is_some table ≡ true → list_any (p most) (texts_in (rowed s.map.tables rows (listed (filter (is_short s.source.count len) (values_named s.source.tables table)))))
+          ≡ list_any (p most) (given_at s rows table len)
+      by len most rows None e = absurd (true≢false (sym e))
+      by len most None (Some table) e = refl
+      by len most (Some name) (Some table) e = refl
+
 -- ---- what is kept
 
 same_name : (x y : Option (Bor (List ℕ))) → option_eq names_eq x y ≡ true → now x ≡ now y
@@ -132,21 +168,54 @@ same_name None None e = refl
 same_name (Some x) (Some y) e = ap Some ((bytes_eq-Decides x.now y.now).0 e)
 same_name x y e = grind arith
 
-same_compared : (s : ContextValue) (x y : Comparison) (lengths : Lengths) → comparisons_eq x y ≡ true → IsCompared s x lengths → IsCompared s y lengths
-same_compared s x y lengths e h len most =
+same_found : (s : ContextValue) (x y : Comparison) (found : Found) → comparisons_eq x y ≡ true → IsFound s x found → IsFound s y found
+same_found s x y found e h =
     let b = both _ _ e in
     let o = both _ _ b.0 in
-    h len most ∙ (λ i. list_any (is_outside_named s (same_name x.1 y.1 b.1 i) most) (given_at s (same_name x.0.0 y.0.0 o.0 i) (same_name x.0.1 y.0.1 o.1 i) len))
+    let table = same_name x.1 y.1 b.1 in
+    let rows = same_name x.0.0 y.0.0 o.0 in
+    let listed = same_name x.0.1 y.0.1 o.1 in
+    record {
+      lengths = λ len most asks. h.lengths len most (subst (λ n. Asks n most) (sym table) asks) ∙ (λ i. list_any (is_outside_named s (table i) most) (given_at s (rows i) (listed i) len));
+      unrowed = λ name is. subst (λ n. IsShortest s.source.count (values_named s.source.tables n) (rows_named s.map.tables name) found.unrowed) listed (h.unrowed name (rows ∙ is));
+    }
+
+pub found_of : (s : ContextValue) (c : Comparison) (found : Found) (all : List Sized) → IsListed s c.0.1 all → IsCompared s c found.lengths.keys → found.unrowed ≡ unrowed_by s.map.tables (now c.0.0) all → IsFound s c found
+found_of s c found all listing is e = record {
+  lengths = is;
+  unrowed = λ name there len. ap (is_within len) (e ∙ ap (λ n. unrowed_by s.map.tables n all) there) ∙ listing (is_lacking (rows_named s.map.tables name)) len;
+}
 
 -- one comparison more
-pub kept_more : {S : Type 0} (s : ContextValue) (x : Comparison) (found : IndexSet (ℕ × ℕ) S) (old new : List (Comparison × IndexSet (ℕ × ℕ) S))
+pub kept_more : (s : ContextValue) (x : Comparison) (found : Found) (old new : List (Comparison × Found))
     → ((c : Comparison) → lookup (comparisons_eq c) new ≡ cond (comparisons_eq x c) (Some found) (lookup (comparisons_eq c) old))
-    → IsCompared s x found.keys → AreKept s old → AreKept s new
+    → IsFound s x found → AreKept s old → AreKept s new
 kept_more s x found old new updates is h c f e = by (comparisons_eq x c) refl (e ∙ updates c)
   where
-    by : (b : Bool) → comparisons_eq x c ≡ b → Some f ≡ cond b (Some found) (lookup (comparisons_eq c) old) → IsCompared s c f.keys
-    by true same e = subst (λ o. IsCompared s c o.keys) (sym (ap (λ o. unwrap_or o f) e)) (same_compared s x c found.keys same is)
+    by : (b : Bool) → comparisons_eq x c ≡ b → Some f ≡ cond b (Some found) (lookup (comparisons_eq c) old) → IsFound s c f
+    by true same e = subst (IsFound s c) (sym (ap (λ o. unwrap_or o f) e)) (same_found s x c found same is)
     by false other e = h c f e
+
+pub listed_as : (s : ContextValue) (name : Option (Bor (List ℕ))) (count : Count) (texts : List (List ℕ)) (all : List Sized) → count ≡ s.source.count → texts ≡ values_named s.source.tables (now name)
+    → IsListing count texts all → IsListed s name all
+listed_as s name count texts all e f h = λ test len. h test len ∙ (λ i. list_any (λ t. fits len (measure (e i) t) && test t) (f i))
+
+pub no_lists : (s : ContextValue) (lists : List (Option (Bor (List ℕ)) × Vec Sized)) → lists ≡ [] → AreLists s lists
+no_lists s lists e name all f = absurd (true≢false (ap is_some f ∙ ap (λ l. is_some (lookup (option_eq names_eq name) l)) e))
+
+pub none_kept : (s : ContextValue) (known : List (Comparison × Found)) → known ≡ [] → AreKept s known
+none_kept s known e c found f = absurd (true≢false (ap is_some f ∙ ap (λ l. is_some (lookup (comparisons_eq c) l)) e))
+
+-- one list more
+pub listed_more : (s : ContextValue) (x : Option (Bor (List ℕ))) (all : Vec Sized) (old new : List (Option (Bor (List ℕ)) × Vec Sized))
+    → ((name : Option (Bor (List ℕ))) → lookup (option_eq names_eq name) new ≡ cond (option_eq names_eq x name) (Some all) (lookup (option_eq names_eq name) old))
+    → IsListed s x all.items → AreLists s old → AreLists s new
+listed_more s x all old new updates is h name f e = by (option_eq names_eq x name) refl (e ∙ updates name)
+  where
+    by : (b : Bool) → option_eq names_eq x name ≡ b → Some f ≡ cond b (Some all) (lookup (option_eq names_eq name) old) → IsListed s name f.items
+    by true same e =
+        subst (λ (o : Vec Sized). IsListed s name o.items) (sym (ap (λ o. unwrap_or o f) e)) (subst (λ n. IsListing s.source.count (values_named s.source.tables n) all.items) (same_name x name same) is)
+    by false other e = h name f e
 
 -- ---- what is read at a place
 
@@ -184,14 +253,13 @@ module _ (profile : ProfileValue) (rows : maps.Rows) (sub : Option SubValue) (ot
   pub any_unrowed : table_of sub ≡ None → true ≡ is_unrowed rows (sub_values profile sub)
   any_unrowed e = let any = sub_texts profile sub ∙ ap (λ t. table_texts profile t (len_of sub)) e in grind arith
 
-  pub listed_unrowed : (table : List ℕ) (len : Option ℕ) (texts : List (Vec ℕ)) → table_of sub ≡ Some table → len ≡ len_of sub → items_all texts ≡ values_named profile.tables (Some table)
-      → some_unrowed (len_count profile) len rows texts ≡ is_unrowed rows (sub_values profile sub)
-  listed_unrowed table len texts e short is =
+  pub listed_unrowed : (table : List ℕ) (len : Option ℕ) → table_of sub ≡ Some table → len ≡ len_of sub
+      → some_unrowed (len_count profile) len rows (values_named profile.tables (Some table)) ≡ is_unrowed rows (sub_values profile sub)
+  listed_unrowed table len e short =
       let all = values_named profile.tables (Some table) in
       let count = len_count profile in
-      let lacks : List ℕ → Bool = λ t. not (is_some (maps.second_of t rows.rows)) in
-      over_items (λ t. fits len (measure count t) && lacks t) texts all is
-      ∙ ap (λ q. list_any (λ t. q t && lacks t) all) (shortness count len)
+      let lacks : List ℕ → Bool = is_lacking rows in
+      ap (λ q. list_any (λ t. q t && lacks t) all) (shortness count len)
       ∙ any_given lacks (is_short count len) [] None all
       ∙ ap (has_no_row rows) (ap (table_texts profile (Some table)) short ∙ sym (sub_texts profile sub ∙ ap (λ t. table_texts profile t (len_of sub)) e))
       ∙ ap (λ b. not b && has_no_row rows (sub_values profile sub)) (sym other)

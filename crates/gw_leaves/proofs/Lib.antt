@@ -1,4 +1,5 @@
 pub mod Inserted
+pub mod Ordered
 pub mod Comparing
 pub mod Presences
 pub mod Fitting

@@ -8,6 +8,7 @@ ghost use Rattle.gw_leaves.specs.Texts.{items_all, rows_value};
 ghost use Rattle.gw_leaves.specs.own.Comparisons as spec;
 
 use crate::leaf::table_named;
+use crate::listing::{first_unlisted, first_unrowed};
 use gw_maplang::{Map, Table as Rows};
 use gw_profile::{Count, Profile, Table, measure};
 use indexmap::IndexSet;
@@ -22,6 +23,23 @@ pub(crate) type Comparison<'a> = (Origin<'a>, Option<&'a [u8]>);
 /// Lengths of texts by the count of the source, each with that of what is given for it by the count of the target.
 pub(crate) type Lengths = IndexSet<(u64, u64)>;
 
+/// What is found by a comparison.
+#[derive(Drop)]
+pub(crate) struct Found {
+    /// The lengths where what is given isn't in the table of the target; where that has a name, only the least.
+    pub(crate) lengths: Lengths,
+    /// The length of the shortest text that has no row, where texts are looked up.
+    pub(crate) unrowed: Option<u64>,
+}
+
+/// Texts of a table of the source by their count, and the rows in which they are looked up.
+#[derive(Clone, Copy)]
+struct LookedUp<'a> {
+    count: Count,
+    rows: Option<&'a Rows>,
+    listed: Option<&'a Table>,
+}
+
 // ---- what is asked
 
 /// Whether a length isn't greater, where there is a greatest.
@@ -29,6 +47,16 @@ pub(crate) fn fits(len: Option<u32>, size: u64) -> bool
     ensures { result ≡ spec.fits len size }
 {
     len.is_none_or(|len| size <= u64::from(len))
+}
+
+/// Whether there is a length, and it isn't greater.
+pub(crate) fn is_within(len: Option<u32>, size: Option<u64>) -> bool
+    ensures { result ≡ spec.is_within len size }
+{
+    match size {
+        None => false,
+        Some(size) => fits(len, size),
+    }
 }
 
 fn exceeds(most: Option<u32>, size: u64) -> bool
@@ -58,7 +86,18 @@ pub fn values_of<'a>(source: &'a Profile, name: &[u8]) -> &'a [Vec<u8>]
     }
 }
 
-fn is_listed(table: Option<&Table>, text: &[u8]) -> bool
+/// The values of the source's table of this name, none where no name is said.
+pub(crate) fn listed_in<'a>(source: &'a Profile, name: Option<&[u8]>) -> &'a [Vec<u8>]
+    ensures { items_all result.now ≡ spec.values_named source.now.tables (now name.entry) }
+{
+    match name {
+        None => &[],
+        Some(name) => values_of(source, name),
+    }
+}
+
+/// Whether the table has this text.
+pub(crate) fn is_listed(table: Option<&Table>, text: &[u8]) -> bool
     ensures { result ≡ is_among text.now (spec.some_values table.entry) }
 {
     table.is_some_and(|table| table.contains(text))
@@ -160,24 +199,155 @@ fn of_rows(
     Ok(made)
 }
 
-/// The lengths where what is given isn't in the table of the target.
+// The texts that have a row.
+fn firsts_of(rows: Option<&Rows>) -> &[Vec<u8>]
+    ensures { items_all result.now ≡ map (λ r. r.first) (rows_value rows.entry).rows }
+{
+    match rows {
+        None => &[],
+        Some(rows) => rows.rows().keys().as_slice(),
+    }
+}
+
+// What the rows give for all other texts.
+fn other_of(rows: Option<&Rows>) -> Option<&[u8]>
+    ensures { now result ≡ (rows_value rows.entry).other }
+{
+    rows?.other()
+}
+
+// Adds what the rows give for a text, where that is one of the source's table.
+fn add_first(
+    lengths: &mut Lengths,
+    to: Count,
+    table: Option<&Table>,
+    texts: LookedUp<'_>,
+    first: &[u8],
+) -> Result<(), AllocError>
+    ensures { OnOk result (spec.AddsFirstOf texts.entry to (spec.some_values table.entry) lengths.old.keys lengths.new.keys first.now) }
+{
+    if !is_listed(texts.listed, first) {
+        return Ok(());
+    }
+    let size = measure(texts.count, first);
+    add(lengths, to, table, size, given(Some(texts.rows), first))?;
+    Ok(())
+}
+
+// Of those of these texts that are in the source's table, by rows.
+fn of_firsts(
+    alloc: Global,
+    to: Count,
+    table: Option<&Table>,
+    texts: LookedUp<'_>,
+    firsts: &[Vec<u8>],
+) -> Result<Lengths, AllocError>
+    ensures { IfOk result (λ made. spec.AreFirstsOf texts.entry to (spec.some_values table.entry) firsts.now made.keys) }
+{
+    let mut made = IndexSet::new(alloc);
+    for first in firsts {
+        add_first(&mut made, to, table, texts, first)?;
+    }
+    Ok(made)
+}
+
+// Of the source's table, by rows. Texts that have no row are given the same: the shortest of them stands for all.
+fn of_looked_up(
+    alloc: Global,
+    to: Count,
+    table: Option<&Table>,
+    texts: LookedUp<'_>,
+    values: &[(u64, &[u8])],
+) -> Result<Lengths, AllocError>
+    requires { spec.IsListing texts.count (spec.some_values texts.listed) values.now }
+    ensures { IfOk result (λ made. spec.AreAllOf texts.entry to (spec.some_values table.entry) made.keys) }
+{
+    let rows = texts.rows;
+    let mut made = of_firsts(alloc, to, table, texts, firsts_of(rows))?;
+    let Some(size) = first_unrowed(rows, values) else {
+        return Ok(made);
+    };
+    add(&mut made, to, table, size, other_of(rows))?;
+    Ok(made)
+}
+
+// Of these texts as they are, the shortest first: of the first that isn't in the table.
+fn of_unlisted(
+    alloc: Global,
+    table: Option<&Table>,
+    values: &[(u64, &[u8])],
+) -> Result<Lengths, AllocError>
+    ensures { IfOk result (λ made. spec.AreUnlisted (spec.some_values table.entry) values.now made.keys) }
+{
+    let mut made = IndexSet::new(alloc);
+    let Some(size) = first_unlisted(table, values) else {
+        return Ok(made);
+    };
+    made.insert((size, 0))?;
+    Ok(made)
+}
+
+// The lengths where what is given isn't in the table of the target.
+fn lengths_of(
+    alloc: Global,
+    source: &Profile,
+    target: &Profile,
+    map: &Map,
+    comparison: Comparison<'_>,
+    values: &[(u64, &[u8])],
+) -> Result<Lengths, AllocError>
+    requires { spec.IsListed (context_of source.now target.now map.now) comparison.0.1 values.now }
+    ensures { IfOk result (λ made. spec.IsCompared (context_of source.now target.now map.now) comparison.entry made.keys) }
+{
+    let ((rows, listed), name) = comparison;
+    let (to, table) = (target.count(), table_named(target, name));
+    let rows = looked_up(map, rows);
+    let Some(listed) = listed else {
+        return of_rows(alloc, to, table, rows);
+    };
+    let count = source.count();
+    if let Some(rows) = rows {
+        let listed = source.table(listed);
+        let texts = LookedUp {
+            count,
+            rows,
+            listed,
+        };
+        return of_looked_up(alloc, to, table, texts, values);
+    }
+    match name {
+        None => of_values(
+            alloc,
+            Some(count),
+            to,
+            table,
+            None,
+            values_of(source, listed),
+        ),
+        Some(_) => of_unlisted(alloc, table, values),
+    }
+}
+
+// The length of the shortest of these texts that has no row in the table of this name.
+fn unrowed_of(map: &Map, name: Option<&[u8]>, values: &[(u64, &[u8])]) -> Option<u64>
+    ensures { result ≡ spec.unrowed_by map.now.tables (now name.entry) values.now }
+{
+    first_unrowed(map.table(name?), values)
+}
+
+/// What is found by a comparison, where these are the values of the source's table, the shortest first.
 pub(crate) fn compare(
     alloc: Global,
     source: &Profile,
     target: &Profile,
     map: &Map,
     comparison: Comparison<'_>,
-) -> Result<Lengths, AllocError>
-    ensures { IfOk result (λ made. spec.IsCompared (context_of source.now target.now map.now) comparison.entry made.keys) }
+    values: &[(u64, &[u8])],
+) -> Result<Found, AllocError>
+    requires { spec.IsListed (context_of source.now target.now map.now) comparison.0.1 values.now }
+    ensures { IfOk result (λ made. spec.IsFound (context_of source.now target.now map.now) comparison.entry made) }
 {
-    let ((rows, listed), name) = comparison;
-    let (to, table) = (target.count(), table_named(target, name));
-    let rows = looked_up(map, rows);
-    match listed {
-        None => of_rows(alloc, to, table, rows),
-        Some(listed) => {
-            let count = Some(source.count());
-            of_values(alloc, count, to, table, rows, values_of(source, listed))
-        }
-    }
+    let lengths = lengths_of(alloc, source, target, map, comparison, values)?;
+    let unrowed = unrowed_of(map, comparison.0.0, values);
+    Ok(Found { lengths, unrowed })
 }

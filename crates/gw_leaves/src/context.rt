@@ -1,6 +1,9 @@
 //! A map with its profiles, while it is checked.
 
-use crate::comparison::{Comparison, Lengths, Origin, compare, some_length};
+use crate::comparison::{
+    Comparison, Found, Origin, compare, is_within, listed_in, some_length, values_of,
+};
+use crate::listing::{Listing, by_length, some_unrowed};
 use crate::meeting::add_items;
 use gw_maplang::Map;
 use gw_profile::{Level, Profile};
@@ -15,7 +18,7 @@ pub struct MapContext<'a> {
     source: &'a Profile,
     target: &'a Profile,
     map: &'a Map,
-    known: IndexMap<Comparison<'a>, Lengths>,
+    known: IndexMap<Comparison<'a>, Found>,
 }
 
 // (by hand, so that no crate above proves again how its fields are dropped)
@@ -48,10 +51,10 @@ impl<'a> Model for MapContext<'a> {
 }
 
 impl<'a> MapContext<'a> {
-    ghost use Rattle.std.specs.Prelude.{◌≡◌, IfOk};
+    ghost use Rattle.std.specs.Prelude.{◌≡◌, IfOk, OnOk, Some};
     ghost use Rattle.std.specs.List.{list_any};
     ghost use Rattle.gw_maplang.specs.Seen.{now};
-    ghost use Rattle.gw_leaves.specs.own.Comparisons.{is_outside_named, given_at};
+    ghost use Rattle.gw_leaves.specs.own.Comparisons.{AreLists, Asks, IsFound, is_outside_named, given_at, rows_named, some_unrowed, values_named};
     ghost use Rattle.gw_leaves.specs.Context.{context_of};
 
     /// The map with its profiles, and what is found of the tables that its items bring together, where this is the level of the source's nodes.
@@ -79,13 +82,67 @@ impl<'a> MapContext<'a> {
         context.knowing(comparisons)
     }
 
+    // Lists the source's table of this name, if it isn't listed.
+    fn list(
+        &self,
+        lists: &mut IndexMap<Option<&'a [u8]>, Listing<'a>>,
+        name: Option<&'a [u8]>,
+    ) -> Result<(), AllocError>
+        requires { AreLists self.now lists.old.entries }
+        ensures { OnOk result (AreLists self.now lists.new.entries) }
+    {
+        if lists.contains_key(&name) {
+            return Ok(());
+        }
+        let all = by_length(
+            self.alloc,
+            self.source.count(),
+            listed_in(self.source, name),
+        )?;
+        lists.insert(name, all)?;
+        Ok(())
+    }
+
+    // What is found by a comparison, by these lists of the source's tables.
+    fn find(
+        &self,
+        lists: &IndexMap<Option<&[u8]>, Listing<'_>>,
+        comparison: Comparison<'_>,
+    ) -> Result<Found, AllocError>
+        requires { AreLists self.now lists.now.entries }
+        ensures { IfOk result (λ found. IsFound self.now comparison.entry found) }
+    {
+        if let Some(all) = lists.get(&comparison.0.1) {
+            return compare(
+                self.alloc,
+                self.source,
+                self.target,
+                self.map,
+                comparison,
+                all,
+            );
+        }
+        let texts = listed_in(self.source, comparison.0.1);
+        let all = by_length(self.alloc, self.source.count(), texts)?;
+        compare(
+            self.alloc,
+            self.source,
+            self.target,
+            self.map,
+            comparison,
+            &all,
+        )
+    }
+
     // The same, with what is found by these comparisons.
     fn knowing(&self, comparisons: IndexSet<Comparison<'a>>) -> Result<MapContext<'a>, AllocError>
         ensures { IfOk result (λ s. s ≡ self.now) }
     {
+        let mut lists = IndexMap::new(self.alloc);
         let mut known = IndexMap::with_capacity(self.alloc, comparisons.len())?;
         for comparison in comparisons {
-            let found = compare(self.alloc, self.source, self.target, self.map, comparison)?;
+            self.list(&mut lists, comparison.0.1)?;
+            let found = self.find(&lists, comparison)?;
             known.insert(comparison, found)?;
         }
         Ok(MapContext {
@@ -127,14 +184,34 @@ impl<'a> MapContext<'a> {
         len: Option<u32>,
         most: Option<u32>,
     ) -> Result<bool, AllocError>
+        requires { Asks (now name) most }
         ensures { IfOk result (λ b. b ≡
             list_any (is_outside_named self.now (now name.entry) most) (given_at self.now (now origin.entry.0) (now origin.entry.1) len)) }
     {
         let comparison = (origin, name);
         if let Some(found) = self.known.get(&comparison) {
-            return Ok(some_length(found.as_slice(), len, most));
+            return Ok(some_length(found.lengths.as_slice(), len, most));
         }
-        let found = compare(self.alloc, self.source, self.target, self.map, comparison)?;
-        Ok(some_length(found.as_slice(), len, most))
+        let found = self.find(&IndexMap::new(self.alloc), comparison)?;
+        Ok(some_length(found.lengths.as_slice(), len, most))
+    }
+
+    /// Whether a text of the source's table that isn't longer than the length has no row in the table of the map.
+    pub(crate) fn some_unrowed<'n>(
+        &self,
+        rows: &'n [u8],
+        listed: &'n [u8],
+        len: Option<u32>,
+    ) -> bool
+        ensures { result ≡
+            some_unrowed self.now.source.count len (rows_named self.now.map.tables rows.now) (values_named self.now.source.tables (Some listed.now)) }
+    {
+        let origin: Origin<'n> = (Some(rows), Some(listed));
+        let comparison: Comparison<'n> = (origin, None);
+        if let Some(found) = self.known.get(&comparison) {
+            return is_within(len, found.unrowed);
+        }
+        let (count, texts) = (self.source.count(), values_of(self.source, listed));
+        some_unrowed(count, len, self.map.table(rows), texts)
     }
 }

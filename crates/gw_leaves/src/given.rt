@@ -3,19 +3,18 @@ ghost use Rattle.std.specs.Prelude.{is_some, ◌≡◌, IfOk};
 ghost use Rattle.gw_profile.specs.Numbered.{some_sub};
 ghost use Rattle.gw_profile.specs.Seen.{sub as sub_value};
 ghost use Rattle.gw_maplang.specs.Seen.{now};
-ghost use Rattle.gw_maplang.specs.Shapes.{second_of};
 ghost use Rattle.gw_leaves.specs.Components.{table_values};
 ghost use Rattle.gw_leaves.specs.Leaves as leaves;
 ghost use Rattle.gw_leaves.specs.Texts.{rows_value};
 ghost use Rattle.gw_leaves.specs.own.Comparisons as spec;
 ghost use Rattle.gw_leaves.specs.own.Held.{given_texts, source_values};
 
-use crate::comparison::{Origin, fits, values_of};
+use crate::comparison::Origin;
 use crate::context::MapContext;
 use crate::leaf::table_named;
 use crate::texts::may_exceed;
 use gw_maplang::Table as Rows;
-use gw_profile::{Count, SubShape, measure};
+use gw_profile::SubShape;
 use std::alloc::AllocError;
 
 /// What is read at a place: a subcomponent of the source, as it is or looked up in the table of this name.
@@ -96,19 +95,6 @@ pub(crate) fn may_be_long(
     context.some_given(origin, None, len, Some(most))
 }
 
-// Whether one of these texts that isn't longer has no row.
-fn some_unrowed(count: Count, len: Option<u32>, rows: Option<&Rows>, texts: &[Vec<u8>]) -> bool
-    ensures { result ≡ spec.some_unrowed count len (rows_value rows.entry) texts.now }
-{
-    texts.iter().any(|text| fits(len, measure(count, text)) && !has_row(rows, text))
-}
-
-fn has_row(rows: Option<&Rows>, text: &[u8]) -> bool
-    ensures { result ≡ is_some (second_of text.now (rows_value rows.entry).rows) }
-{
-    rows.is_some_and(|rows| rows.second(text).is_some())
-}
-
 fn has_other(rows: Option<&Rows>) -> bool
     ensures { result ≡ is_some (rows_value rows.entry).other }
 {
@@ -126,6 +112,5 @@ pub(crate) fn is_unrowed(context: &MapContext<'_>, name: &[u8], sub: Option<&Sub
     let Some(listed) = table_of(sub) else {
         return true;
     };
-    let source = context.source();
-    some_unrowed(source.count(), len_of(sub), rows, values_of(source, listed))
+    context.some_unrowed(name, listed, len_of(sub))
 }

@@ -9,6 +9,7 @@ mod given;
 mod known;
 pub mod laws;
 mod leaf;
+mod listing;
 mod lookup;
 mod made;
 mod making;

@@ -1,10 +1,9 @@
 -- Texts of the source against tables of the target, whatever the length at which a place reads them.
-use Rattle.std.specs.Prelude.{◌≡◌, ℕ, Bool, true, false, ◌&&◌, ◌||◌, not, nat_lt, nat_le, List, [], ◌++◌, map, filter, Option, Some, None, is_some, option_copied, option_and_then, option_to_list, unwrap_or, bytes_eq}
+use Rattle.std.specs.Prelude.{◌≡◌, if◌then◌else◌, ◌∷◌, ℕ, Bool, true, false, ◌&&◌, ◌||◌, not, nat_lt, nat_le, List, [], ◌++◌, map, filter, Option, Some, None, is_some, option_copied, option_and_then, option_to_list, unwrap_or, bytes_eq}
 use Rattle.std.specs.List.{list_any}
 use Rattle.std.specs.Map.{lookup}
 use Rattle.std.specs.Option.{option_eq}
 use Rattle.std.specs.Global.{Vec}
-use Rattle.indexmap.specs.IndexSet.{IndexSet}
 use denote.Ref.{Bor}
 use Rattle.gw_profile.specs.Shapes.{SubValue, TableValue, ProfileValue}
 use Rattle.gw_profile.specs.declared.shape.Count.{Count}
@@ -17,6 +16,9 @@ use Rattle.gw_maplang.specs.Shapes as maps
 use Rattle.gw_resolve.specs.Naming.{no_rows}
 use Rattle.gw_leaves.specs.Leaves.{Values, any, listed, is_short, given, given_values, has_no_row}
 use Rattle.gw_leaves.specs.Context.{ContextValue}
+use Rattle.gw_leaves.specs.Texts.{rows_value}
+use Rattle.gw_leaves.specs.declared.comparison.Found.{Found}
+use Rattle.gw_leaves.specs.declared.comparison.LookedUp.{LookedUp}
 
 -- ---- what is read at a place
 
@@ -53,9 +55,49 @@ fits (Some most) n = nat_le n most
 abbrev pub is_unrowed : maps.Rows → Values → Bool
 is_unrowed rows values = not (is_some rows.other) && has_no_row rows values
 
+abbrev pub is_rowed : maps.Rows → List ℕ → Bool
+is_rowed rows text = is_some (maps.second_of text rows.rows)
+
+abbrev pub is_lacking : maps.Rows → List ℕ → Bool
+is_lacking rows text = not (is_rowed rows text)
+
 -- one of these texts that isn't longer has no row
-abbrev pub some_unrowed : Count → Option ℕ → maps.Rows → List (Vec ℕ) → Bool
-some_unrowed count len rows texts = list_any (λ v. fits len (measure count v.items) && not (is_some (maps.second_of v.items rows.rows))) texts
+abbrev pub some_unrowed : Count → Option ℕ → maps.Rows → List (List ℕ) → Bool
+some_unrowed count len rows texts = list_any (λ t. fits len (measure count t) && is_lacking rows t) texts
+
+-- ---- texts by their lengths
+
+abbrev pub Sized : Type 0
+Sized = ℕ × Bor (List ℕ)
+
+abbrev pub sized : Sized → ℕ × List ℕ
+sized p = (p.0, p.1.now)
+
+-- the length of the first of these texts that passes a test
+abbrev pub first_length : (List ℕ → Bool) → List Sized → Option ℕ
+first_length test [] = None
+first_length test (p ∷ ps) = if test p.1.now then Some p.0 else first_length test ps
+
+-- there is a length, and it isn't greater
+abbrev pub is_within : Option ℕ → Option ℕ → Bool
+is_within len None = false
+is_within len (Some size) = fits len size
+
+-- whatever the test: the first of the texts that passes it is the shortest one
+abbrev pub IsListing : Count → List (List ℕ) → List Sized → Type 0
+IsListing count texts all = (test : List ℕ → Bool) (len : Option ℕ) → is_within len (first_length test all) ≡ list_any (λ t. fits len (measure count t) && test t) texts
+
+-- it isn't one of these values
+abbrev pub is_missing : List (List ℕ) → List ℕ → Bool
+is_missing values text = not (is_among text values)
+
+-- of these, the first that has no row in the table of this name
+abbrev pub unrowed_by : List maps.TableValue → Option (List ℕ) → List Sized → Option ℕ
+unrowed_by tables name all = option_and_then (λ n. first_length (is_lacking (rows_named tables n)) all) name
+
+-- the shortest of the texts that have no row has this length
+abbrev pub IsShortest : Count → List (List ℕ) → maps.Rows → Option ℕ → Type 0
+IsShortest count texts rows shortest = (len : Option ℕ) → is_within len shortest ≡ some_unrowed count len rows texts
 
 -- ---- where texts are from
 
@@ -110,6 +152,10 @@ Lengths = List (ℕ × ℕ)
 abbrev pub some_length : Option ℕ → Option ℕ → Lengths → Bool
 some_length len most lengths = list_any (λ l. fits len l.0 && exceeds most l.1) lengths
 
+-- a table that is named isn't asked for together with what is longest
+abbrev pub Asks : Option (List ℕ) → Option ℕ → Type 0
+Asks name most = is_some name ≡ true → most ≡ None
+
 -- what is given for a text of this length was added
 abbrev pub Adds : Count → List (List ℕ) → Lengths → Lengths → ℕ → Option (List ℕ) → Type 0
 Adds to values old new size text = (len most : Option ℕ) → some_length len most new ≡ (some_length len most old || (fits len size && holds_of (is_outside to values most) text))
@@ -124,6 +170,25 @@ abbrev pub AreOfValues : Option Count → Count → List (List ℕ) → Option m
 AreOfValues count to values rows texts lengths = (len most : Option ℕ) →
     some_length len most lengths ≡ list_any (λ v. fits len (size_of count v.items) && holds_of (is_outside to values most) (given_by rows v.items)) texts
 
+-- of these, the first that isn't one of the values
+abbrev pub AreUnlisted : List (List ℕ) → List Sized → Lengths → Type 0
+AreUnlisted values all lengths = (len : Option ℕ) → some_length len None lengths ≡ is_within len (first_length (is_missing values) all)
+
+-- what the rows give for each of these firsts that is one of the texts
+abbrev pub AreOfFirsts : Count → Count → List (List ℕ) → maps.Rows → List (List ℕ) → List (Vec ℕ) → Lengths → Type 0
+AreOfFirsts count to values rows texts firsts lengths = (len most : Option ℕ) →
+    some_length len most lengths ≡ list_any (λ v. is_among v.items texts && (fits len (measure count v.items) && holds_of (is_outside to values most) (given rows v.items))) firsts
+
+-- one of these is one of the texts, and was added
+abbrev pub AddsFirst : Count → Count → List (List ℕ) → maps.Rows → List (List ℕ) → Lengths → Lengths → List ℕ → Type 0
+AddsFirst count to values rows texts old new text = (len most : Option ℕ) →
+    some_length len most new ≡ (some_length len most old || (is_among text texts && (fits len (measure count text) && holds_of (is_outside to values most) (given rows text))))
+
+-- what rows give for each of these texts
+abbrev pub AreLookedUp : Count → Count → List (List ℕ) → maps.Rows → List (List ℕ) → Lengths → Type 0
+AreLookedUp count to values rows texts lengths = (len most : Option ℕ) →
+    some_length len most lengths ≡ list_any (λ t. fits len (measure count t) && holds_of (is_outside to values most) (given rows t)) texts
+
 -- all that rows give, where texts are looked up in some
 abbrev pub all_given : Option maps.Rows → List (List ℕ)
 all_given None = []
@@ -135,6 +200,16 @@ AreOfRows to values rows lengths = (len most : Option ℕ) → some_length len m
 -- the table of the target, where there is one
 abbrev pub some_values : Option (Bor (List (List ℕ))) → List (List ℕ)
 some_values table = unwrap_or (option_copied table) []
+
+-- the same of texts as the program holds them
+abbrev pub AddsFirstOf : LookedUp → Count → List (List ℕ) → Lengths → Lengths → List ℕ → Type 0
+AddsFirstOf t to values = AddsFirst t.count to values (rows_value t.rows) (some_values t.listed)
+
+abbrev pub AreFirstsOf : LookedUp → Count → List (List ℕ) → List (Vec ℕ) → Lengths → Type 0
+AreFirstsOf t to values = AreOfFirsts t.count to values (rows_value t.rows) (some_values t.listed)
+
+abbrev pub AreAllOf : LookedUp → Count → List (List ℕ) → Lengths → Type 0
+AreAllOf t to values = AreLookedUp t.count to values (rows_value t.rows) (some_values t.listed)
 
 -- ---- what is kept of comparisons
 
@@ -150,9 +225,22 @@ comparisons_eq x y = (option_eq names_eq x.0.0 y.0.0 && option_eq names_eq x.0.1
 
 -- these are the lengths where what is given isn't in the target's table
 abbrev pub IsCompared : ContextValue → Comparison → Lengths → Type 0
-IsCompared s c lengths = (len most : Option ℕ) →
+IsCompared s c lengths = (len most : Option ℕ) → Asks (now c.1) most →
     some_length len most lengths ≡ list_any (is_outside_named s (now c.1) most) (given_at s (now c.0.0) (now c.0.1) len)
 
+-- the values of the source's table of this name, by their lengths
+abbrev pub IsListed : ContextValue → Option (Bor (List ℕ)) → List Sized → Type 0
+IsListed s name all = IsListing s.source.count (values_named s.source.tables (now name)) all
+
+-- what is found by a comparison
+pub record IsFound (s : ContextValue) (c : Comparison) (found : Found) : Type 0 where
+  pub lengths : IsCompared s c found.lengths.keys
+  pub unrowed : (name : List ℕ) → now c.0.0 ≡ Some name → IsShortest s.source.count (values_named s.source.tables (now c.0.1)) (rows_named s.map.tables name) found.unrowed
+
 -- what is found of a comparison is so
-abbrev pub AreKept : {S : Type 0} → ContextValue → List (Comparison × IndexSet (ℕ × ℕ) S) → Type 0
-AreKept {S} s known = (c : Comparison) (found : IndexSet (ℕ × ℕ) S) → Some found ≡ lookup (comparisons_eq c) known → IsCompared s c found.keys
+abbrev pub AreKept : ContextValue → List (Comparison × Found) → Type 0
+AreKept s known = (c : Comparison) (found : Found) → Some found ≡ lookup (comparisons_eq c) known → IsFound s c found
+
+-- the tables of the source that were listed
+abbrev pub AreLists : ContextValue → List (Option (Bor (List ℕ)) × Vec Sized) → Type 0
+AreLists s lists = (name : Option (Bor (List ℕ))) (all : Vec Sized) → Some all ≡ lookup (option_eq names_eq name) lists → IsListed s name all.items

@@ -23,9 +23,5 @@ returns c =
     let map = c.map.ensures in
     let there = c.has_other.ensures in
     let none = c.if-has_other.false in
-    let source = c.source-source.ensures in
-    let count = c.count.ensures in
-    let values = c.values_of.ensures in
-    let some = c.some_unrowed.ensures in
-    let all = listed_unrowed (profile_value s.source) (rows_named s.map.tables c.args.name.now) (some_sub c.args.sub) (cc) c.in-Some.listed.now c.len_of.result c.values_of.result.now (sym c.table_of.ensures ∙ ap now c.in-Some.is) c.len_of.ensures (cc) in
-    cc
+    c.some_unrowed.ensures
+    ∙ listed_unrowed (profile_value s.source) (rows_named s.map.tables c.args.name.now) (some_sub c.args.sub) (cc) c.in-Some.listed.now c.len_of.result (sym c.table_of.ensures ∙ ap now c.in-Some.is) c.len_of.ensures

@@ -1,5 +1,8 @@
-use Rattle.gw_leaves.specs.own.Comparisons.{AreKept}
+use Rattle.gw_leaves.specs.own.Comparisons.{AreKept, AreLists}
 use Rattle.gw_leaves.proofs.context.MapContext.knowing.Given as goal
 
 abbrev pub invariant-loop-comparison : goal.invariant-loop-comparison
-invariant-loop-comparison l = AreKept l.self l.known.entries
+invariant-loop-comparison l = record {
+  lists : AreLists l.self l.lists.entries;
+  known : AreKept l.self l.known.entries;
+}

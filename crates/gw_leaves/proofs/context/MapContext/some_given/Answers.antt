@@ -1,15 +1,16 @@
 use Rattle.std.proofs.Common.{ap, subst, ◌∙◌}
-use Rattle.gw_leaves.specs.own.Comparisons.{IsCompared, some_length}
+use Rattle.gw_leaves.specs.own.Comparisons.{IsFound, some_length}
+use Rattle.gw_leaves.proofs.Comparing.{no_lists}
 use Rattle.gw_leaves.proofs.context.MapContext.some_given.Goals as goal
+
+pub find-requires : goal.find-requires
+find-requires c = no_lists c.args.self.now _ c.new.ensures.empty
 
 pub returns-in-Some : goal.returns-in-Some
 returns-in-Some c =
     let f = c.in-Some.found.now in
-    let is = subst (λ s. IsCompared s (c.args.origin, c.args.name) f.keys) c.self.view_is (c.self.invariant (c.args.origin, c.args.name) f c.in-Some.ensures.value) in
-    c.some_length.ensures ∙ ap (some_length c.args.len c.args.most) c.as_slice.ensures.keys ∙ is c.args.len c.args.most
+    let is = subst (λ s. IsFound s (c.args.origin, c.args.name) f) c.self.view_is (c.self.invariant (c.args.origin, c.args.name) f c.in-Some.ensures.value) in
+    c.some_length.ensures ∙ ap (some_length c.args.len c.args.most) c.as_slice.ensures.keys ∙ is.lengths c.args.len c.args.most c.requires
 
 pub returns : goal.returns
-returns c =
-    let f = c.in_ok-found.found in
-    let is = subst (λ s. IsCompared s (c.args.origin, c.args.name) f.keys) c.self.view_is c.in_ok-found.ensures in
-    c.some_length-2.ensures ∙ ap (some_length c.args.len c.args.most) c.as_slice-2.ensures.keys ∙ is c.args.len c.args.most
+returns c = c.some_length-2.ensures ∙ ap (some_length c.args.len c.args.most) c.as_slice-2.ensures.keys ∙ c.in_ok-found.ensures.lengths c.args.len c.args.most c.requires
