@@ -156,6 +156,11 @@ fn subcomponents(name: &str, count: usize, table: &str, own: bool) -> String {
     profile
 }
 
+/// The numbers below this one, each behind a space.
+fn numbers(count: usize) -> String {
+    (0..count).map(|n| format!(" {n}")).collect()
+}
+
 /// A table of this many values, in reverse order on request.
 fn table(count: usize, turned: bool) -> String {
     let mut line = String::from("table CODES");
@@ -186,6 +191,24 @@ fn leaves(count: usize, values: usize, turned: bool, own: bool) -> Case {
     )
 }
 
+/// This many lookups, each in a table of its own with one row, of subcomponents of a table of this many values.
+fn lookups(count: usize, values: usize) -> Case {
+    let mut map = String::from("map LOOKUPS from FROM to TO\n");
+    for n in 0..count {
+        writeln!(map, "table T{n}\n  row {n} 0\n  else 1").expect("a String takes all");
+    }
+    map.push_str("segment MSH from MSH\nsegment ZAA from ZAA\n  build 1\n");
+    for (n, (comp, sub)) in (0..count).map(place).enumerate() {
+        writeln!(map, "    at {comp}.{sub} lookup T{n} ZAA-1.{comp}.{sub}")
+            .expect("a String takes all");
+    }
+    case(
+        subcomponents("FROM", count, &table(values, false), false),
+        subcomponents("TO", count, &table(2, false), false),
+        map,
+    )
+}
+
 const PATIENTS: &str = "profile PATIENTS\nsegment MSH R 1..1\ngroup PATIENT R 1..*\n  segment PID R 1..1\n  group ORDER O 0..*\n    segment OBR R 1..1\n      field 1 RE 0..1\n  end\nend\n";
 
 const ORDERS: &str = "profile ORDERS\nsegment MSH R 1..1\nsegment OBR O 0..*\n  field 1 RE 0..1\n";
@@ -210,6 +233,14 @@ fn repetitions(rule: &str, content: String) -> Case {
     Case {
         content,
         ..case(profile.into(), profile.into(), map)
+    }
+}
+
+/// The same in language 2.
+fn second(plain: Case) -> Case {
+    Case {
+        map: plain.map.replacen('\n', "\nlanguage 2\n", 1),
+        ..plain
     }
 }
 
@@ -243,6 +274,7 @@ fn all(examples: &Path) -> io::Result<Vec<(&'static str, Case)>> {
             leaves(9_000, VALUES, true, false),
         ),
         ("leaves_9000_of_lengths", leaves(9_000, VALUES, false, true)),
+        ("lookups_2400_of_own_tables", lookups(2_400, VALUES)),
         (
             "patients_with_one_order",
             flattened(format!("{HEADER}{one_order}")),
@@ -261,6 +293,16 @@ fn all(examples: &Path) -> io::Result<Vec<(&'static str, Case)>> {
                 "repeat 1 from ZAA-1\n    at 1 copy .1",
                 values(500_000, "x"),
             ),
+        ),
+        (
+            "chosen_of_80000_values",
+            second(repetitions(
+                &format!(
+                    "repeat 1 from ZAA-1 where 1 is{}\n    at 1 copy .1",
+                    numbers(80_000)
+                ),
+                values(500_000, "x"),
+            )),
         ),
         (
             "empty_repetitions",
