@@ -16,7 +16,7 @@ use Rattle.gw_resolve.specs.Intervals.{once, of_card, product}
 use Rattle.gw_resolve.specs.Order.{is_segment, is_group}
 use Rattle.gw_resolve.specs.Resolved.{copy, Rule, SegmentItem, Items, no_items, segment_item, group_item}
 use Rattle.gw_profile.specs.Labels.{labelled}
-use Rattle.gw_resolve.specs.Naming.{place_of, place_or, itself, node_or, ends_at_segment, is_single_place, has_place, but_last, label_failures, segments_failures, walk_failures, rule_failures, path_failures, target_failures, rule, resolved_items}
+use Rattle.gw_resolve.specs.Naming.{place_of, place_or, itself, node_or, after, ends_at_segment, is_single_place, has_place, but_last, label_failures, segments_failures, walk_failures, rule_failures, path_failures, target_failures, rule, resolved_items}
 use Rattle.gw_resolve.proofs.Finding.{below_there}
 use Rattle.gw_check.proofs.Placing.{first_or_later}
 
@@ -124,6 +124,11 @@ group_stands whole j g nodes rest h = stands whole (group g nodes rest) j g.labe
 pub nodes_there : (f : Forest) (k : ℕ) (e : Element) → child f k ≡ Some e → nodes_of_child f k ≡ nodes_of e
 nodes_there f k e h = ap (λ (o : Option Element). elim o as (λ x. Forest) [ None ↦ nothing | Some x ↦ nodes_of x ]) h
 
+-- it is behind those before it
+after_there : (whole : Forest) (j k : ℕ) (label : List ℕ) (x : Element) → k ≤ j → Stands whole j label x → after k whole label ≡ j
+after_there whole j k label x order h =
+    ap (λ n. if nat_lt n k then k else n) (ap (λ o. unwrap_or o k) h.label_is) ∙ ap (λ b. if b then k else j) (le-ltb j k order)
+
 pub number_there : (whole : Forest) (j k : ℕ) (label : List ℕ) (x : Element) → Stands whole j label x → node_or k whole label ≡ j
 number_there whole j k label x h = ap (λ o. unwrap_or o k) h.label_is
 
@@ -210,7 +215,7 @@ targets_hold whole k j nothing order h d g = refl
 targets_hold whole k j (segment s rest) order h d g =
     let here = segment_stands whole j s rest h in
     let later = behind_segment whole j s rest h d in
-    let others = ap (λ n. target_failures whole n (same_items rest)) (number_there whole j k s.label (a_segment s) here) ∙ targets_hold whole j (suc j) rest (omega arith) later d.1 g in
+    let others = ap (λ n. target_failures whole n (same_items rest)) (after_there whole j k s.label (a_segment s) order here) ∙ targets_hold whole j (suc j) rest (omega arith) later d.1 g in
     elim (is_forbidden (Some s.usage)) as (λ b. target_failures whole k (if b then same_items rest else raw.segment (segment_of s) (same_items rest)) ≡ [])
     [ true ↦ targets_hold whole k (suc j) rest (omega (arith, order)) later d.1 g | false ↦ no_more _ _ (label_holds whole is_segment k j s.label (a_segment s) here refl order) others ]
 targets_hold whole k j (group x nodes rest) order h d g =
@@ -220,7 +225,7 @@ targets_hold whole k j (group x nodes rest) order h d g =
     no_more _ _
     (ap₂ or_later (label_holds whole is_group k j x.label (a_group x nodes) here refl order)
     (ap (λ f. target_failures f 0 (same_items nodes)) below ∙ targets_hold nodes 0 0 nodes (omega arith) (from_the_first nodes) g.0.distinct g.1))
-    (ap (λ n. target_failures whole n (same_items rest)) number ∙ targets_hold whole j (suc j) rest (omega arith) (behind_group whole j x nodes rest h d) d.1 g.2)
+    (ap (λ n. target_failures whole n (same_items rest)) (after_there whole j k x.label (a_group x nodes) order here) ∙ targets_hold whole j (suc j) rest (omega arith) (behind_group whole j x nodes rest h d) d.1 g.2)
 
 -- ---- the items without labels
 

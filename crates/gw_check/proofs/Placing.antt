@@ -14,7 +14,7 @@ use Rattle.gw_resolve.specs.Places.{Element, child, nodes_of_child, within}
 use Rattle.gw_resolve.specs.Resolved.{Items, first_child}
 use Rattle.gw_resolve.specs.Order.{is_segment, is_group, all_for, are_placed, follows}
 use Rattle.gw_profile.specs.Labels.{labelled}
-use Rattle.gw_resolve.specs.Naming.{node_or, first_or, labels, are_one, label_failures, target_failures, resolved_items, place_or}
+use Rattle.gw_resolve.specs.Naming.{node_or, after, first_or, labels, are_one, label_failures, target_failures, resolved_items, place_or}
 
 -- ---- no failures
 
@@ -53,6 +53,10 @@ named nodes is_kind j line label none e =
     let p = nil_both (fails 3 (at_line line) (not (is_kind (option_and_then (child nodes) (labelled nodes label))))) (fails 3 (at_line line) (nat_lt (node_or j nodes label) j)) e in
     named_by nodes is_kind j label (labelled nodes label) none refl (not_false _ (not_broken 3 (at_line line) _ p.0)) (not_broken 3 (at_line line) _ p.1)
 
+-- the next items stand behind it
+behind : (nodes : Forest) (j line : ℕ) (label : List ℕ) (rest : raw.Items) → fails 3 (at_line line) (nat_lt (node_or j nodes label) j) ≡ [] → target_failures nodes (after j nodes label) rest ≡ [] → target_failures nodes (node_or j nodes label) rest ≡ []
+behind nodes j line label rest e h = ap (λ b. target_failures nodes (if b then j else node_or j nodes label) rest) (sym (not_broken 3 (at_line line) _ e)) ∙ h
+
 -- its number, whatever stands in for none
 pub alike : (nodes : Forest) (label : List ℕ) (j : ℕ) → labelled nodes label ≡ Some (node_or 0 nodes label) → node_or j nodes label ≡ node_or 0 nodes label
 alike nodes label j e = ap (λ o. unwrap_or o j) e
@@ -72,8 +76,8 @@ some_labels names items h some e = absurd (cc)
 
 pub segment_parts : (nodes : Forest) (j : ℕ) (s : raw.SegmentItem) (rest : raw.Items) → target_failures nodes j (raw.segment s rest) ≡ [] → Named nodes is_segment j s.label × (target_failures nodes (node_or j nodes s.label) rest ≡ [])
 segment_parts nodes j s rest e =
-    let p = nil_both (label_failures nodes is_segment j s.line s.label) (target_failures nodes (node_or j nodes s.label) rest) e in
-    (named nodes is_segment j s.line s.label refl p.0, p.1)
+    let p = nil_both (label_failures nodes is_segment j s.line s.label) (target_failures nodes (after j nodes s.label) rest) e in
+    (named nodes is_segment j s.line s.label refl p.0, behind nodes j s.line s.label rest (nil_both (fails 3 (at_line s.line) _) _ p.0).1 p.1)
 
 pub record GroupParts (nodes : Forest) (j : ℕ) (g : raw.GroupItem) (items rest : raw.Items) : Type 0 where
   pub label : Named nodes is_group j g.label
@@ -84,9 +88,9 @@ pub group_parts : (nodes : Forest) (j : ℕ) (g : raw.GroupItem) (items rest : r
 group_parts nodes j g items rest e =
     let a = label_failures nodes is_group j g.line g.label in
     let b = target_failures (nodes_of_child nodes (node_or j nodes g.label)) 0 items in
-    let p = nil_both (or_later a b) (target_failures nodes (node_or j nodes g.label) rest) e in
+    let p = nil_both (or_later a b) (target_failures nodes (after j nodes g.label) rest) e in
     let q = later_nil a b p.0 in
-    record { label = named nodes is_group j g.line g.label refl q.0; inner = q.1; others = p.1 }
+    record { label = named nodes is_group j g.line g.label refl q.0; inner = q.1; others = behind nodes j g.line g.label rest (nil_both (fails 3 (at_line g.line) _) _ q.0).1 p.1 }
 
 pub record FlatParts (nodes : Forest) (j : ℕ) (items rest : raw.Items) : Type 0 where
   pub one : are_one (labels items) ≡ true
@@ -99,10 +103,10 @@ flat_parts nodes j f items rest e =
     let a = fails 3 (at_line f.line) (not (are_one (labels items))) in
     let b = fails 3 (at_line f.line) (nat_lt (node_or j nodes (first_or (labels items))) j) in
     let c = target_failures nodes 0 items in
-    let p = nil_both (or_later (a ++ b) c) (target_failures nodes (node_or j nodes (first_or (labels items))) rest) e in
+    let p = nil_both (or_later (a ++ b) c) (target_failures nodes (after j nodes (first_or (labels items))) rest) e in
     let q = later_nil (a ++ b) c p.0 in
     let r = nil_both a b q.0 in
-    record { one = not_false _ (not_broken 3 (at_line f.line) _ r.0); order = not_broken 3 (at_line f.line) _ r.1; inner = q.1; others = p.1 }
+    record { one = not_false _ (not_broken 3 (at_line f.line) _ r.0); order = not_broken 3 (at_line f.line) _ r.1; inner = q.1; others = behind nodes j f.line (first_or (labels items)) rest r.1 p.1 }
 
 -- the first label names a node
 first_named : (names : List (List ℕ)) (nodes : Forest) (j : ℕ) (items : raw.Items) → theirs.LawfulItems names items → (items ≡ raw.nothing → ⊥) → target_failures nodes j items ≡ [] → labelled nodes (first_or (labels items)) ≡ Some (node_or 0 nodes (first_or (labels items)))

@@ -13,7 +13,7 @@ use Rattle.gw_resolve.specs.Failures.{Failure, at_line, fails, or_later}
 use Rattle.gw_resolve.specs.Order.{is_segment, is_group}
 use Rattle.gw_resolve.specs.Places.{child, nodes_of_child}
 use Rattle.gw_profile.specs.Labels.{labelled}
-use Rattle.gw_resolve.specs.Naming.{labels, first_or, node_or, label_failures, flat_failures, target_failures}
+use Rattle.gw_resolve.specs.Naming.{labels, first_or, node_or, after, label_failures, flat_failures, target_failures}
 use Rattle.gw_resolve.specs.Outcome.{reached}
 use Rattle.gw_resolve.proofs.Noting.{front, added_one}
 use Rattle.gw_resolve.proofs.Labels.{flat_labels}
@@ -22,8 +22,8 @@ one_target : (nodes : Forest) (j : ℕ) (x : Item) (rest : Items) → target_fai
 one_target nodes j (EachFlat' line from shape row) rest =
     let first = first_or (labels (row_items row)) in
     let here = or_later (flat_failures nodes j line (labels (row_items row))) (target_failures nodes 0 (row_items row)) in
-    sym (append_assoc here [] (target_failures nodes (node_or j nodes first) rest))
-    ∙ ap (λ l. (here ++ []) ++ target_failures nodes (node_or j nodes (first_or l)) rest) (sym (append-nil (labels (row_items row))))
+    sym (append_assoc here [] (target_failures nodes (after j nodes first) rest))
+    ∙ ap (λ l. (here ++ []) ++ target_failures nodes (after j nodes (first_or l)) rest) (sym (append-nil (labels (row_items row))))
 one_target nodes j x rest = search (append_assoc)
 
 pub targets_next : (nodes : Forest) (xs : List Item) (i : ℕ) (x : Item) (old new : List Failure) (j k : ℕ) → i < length xs → x ≡ get_or xs i x → new ≡ old ++ target_failures nodes j (with_item x nothing) → k ≡ reached nodes j x → old ++ target_failures nodes j (all_items (drop i xs)) ≡ new ++ target_failures nodes k (all_items (drop (i + 1) xs))
@@ -57,11 +57,11 @@ flat_targets nodes j f xs ys a b =
     ∙ sym (append-nil (or_later (flat_failures nodes j f.line (labels (all_items f.items.items))) (target_failures nodes 0 (all_items f.items.items))))
     ∙ ap (target_failures nodes j) (sym (flat_items f nothing))
 
-pub group_reached : (nodes : Forest) (j : ℕ) (g : GroupItem) → node_or j nodes g.label.items ≡ reached nodes j (EachAs g)
-group_reached nodes j g = ap (λ l. node_or j nodes (first_or (labels l))) (sym (group_items g nothing))
+pub group_reached : (nodes : Forest) (j : ℕ) (g : GroupItem) → after j nodes g.label.items ≡ reached nodes j (EachAs g)
+group_reached nodes j g = ap (λ l. after j nodes (first_or (labels l))) (sym (group_items g nothing))
 
-pub flat_reached : (nodes : Forest) (j node : ℕ) (f : FlatItem) (xs : List Item) → xs ≡ f.items.items → node ≡ node_or j nodes (first_or (labels (all_items xs))) → node ≡ reached nodes j (EachFlat f)
-flat_reached nodes j node f xs a n = n ∙ ap (node_or j nodes) (ap first_or (flat_labels (EachFlat f) f xs refl a))
+pub flat_reached : (nodes : Forest) (j node : ℕ) (f : FlatItem) (xs : List Item) → xs ≡ f.items.items → node ≡ after j nodes (first_or (labels (all_items xs))) → node ≡ reached nodes j (EachFlat f)
+flat_reached nodes j node f xs a n = n ∙ ap (after j nodes) (ap first_or (flat_labels (EachFlat f) f xs refl a))
 
 -- of a label alone
 pub label_targets : (first : List Failure) (nodes : Forest) (j line : ℕ) (label whole : List ℕ) (new : List Failure) → label ≡ whole → new ≡ first ++ label_failures nodes is_segment j line label → new ≡ first ++ (label_failures nodes is_segment j line whole ++ [])

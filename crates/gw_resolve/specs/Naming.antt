@@ -210,17 +210,21 @@ label_failures nodes is_kind j line label =
 abbrev pub flat_failures : Forest → ℕ → ℕ → List (List ℕ) → List Failure
 flat_failures nodes j line labels = fails 3 (at_line line) (not (are_one labels)) ++ fails 3 (at_line line) (nat_lt (node_or j nodes (first_or labels)) j)
 
+-- the node of a label behind one of node j, or j where it stands before that or is none
+abbrev pub after : ℕ → Forest → List ℕ → ℕ
+after j nodes label = if nat_lt (node_or j nodes label) j then j else node_or j nodes label
+
 -- items behind one of node j; one that fails hides what is within it
 abbrev pub target_failures : Forest → ℕ → raw.Items → List Failure
 target_failures nodes j raw.nothing = []
 target_failures nodes j (raw.segment s rest) =
-    label_failures nodes is_segment j s.line s.label ++ target_failures nodes (node_or j nodes s.label) rest
+    label_failures nodes is_segment j s.line s.label ++ target_failures nodes (after j nodes s.label) rest
 target_failures nodes j (raw.group g items rest) =
     or_later (label_failures nodes is_group j g.line g.label) (target_failures (nodes_of_child nodes (node_or j nodes g.label)) 0 items)
-    ++ target_failures nodes (node_or j nodes g.label) rest
+    ++ target_failures nodes (after j nodes g.label) rest
 target_failures nodes j (raw.flat f items rest) =
     or_later (flat_failures nodes j f.line (labels items)) (target_failures nodes 0 items)
-    ++ target_failures nodes (node_or j nodes (first_or (labels items))) rest
+    ++ target_failures nodes (after j nodes (first_or (labels items))) rest
 
 -- ---- the map without labels
 

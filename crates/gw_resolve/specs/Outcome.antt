@@ -42,9 +42,9 @@ path_failures scope from = spec.path_failures scope (raw.with_item from nothing)
 abbrev pub target_failures : Forest → ℕ → TheirItem → List Told
 target_failures nodes j from = spec.target_failures nodes j (raw.with_item from nothing)
 
--- the number of the node of an item, j where it has none
+-- the number of the node of an item, j where it has none or one before that
 abbrev pub reached : Forest → ℕ → TheirItem → ℕ
-reached nodes j from = spec.node_or j nodes (spec.first_or (spec.labels (raw.with_item from nothing)))
+reached nodes j from = spec.after j nodes (spec.first_or (spec.labels (raw.with_item from nothing)))
 
 -- an item of a level, behind one of node j: what is made of it, its node, and its failures
 pub record ResolvesItem (scope : List Element) (nodes : Forest) (j : ℕ) (from : TheirItem) (old new : NameFailures) (made : ResolvedItem) : Type 0 where

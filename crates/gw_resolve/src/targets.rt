@@ -1,5 +1,5 @@
 //! The target nodes of items, and whether they are in order (3).
-ghost use Rattle.std.specs.Prelude.{◌≡◌, ◌++◌, not, nat_lt, slice_get, bytes_eq, option_map, option_and_then, IfOk, OnOk};
+ghost use Rattle.std.specs.Prelude.{◌≡◌, ◌++◌, not, nat_lt, if◌then◌else◌, slice_get, bytes_eq, option_map, option_and_then, IfOk, OnOk};
 ghost use Rattle.std.specs.List.{list_all};
 ghost use Rattle.gw_maplang.specs.Seen.{now, with_item, all_items};
 ghost use Rattle.gw_maplang.specs.Shapes.{nothing};
@@ -138,6 +138,13 @@ fn note_target(
     note(found, 3, at_line(line), node < j)
 }
 
+// The later of two nodes.
+fn after(j: usize, node: usize) -> usize
+    ensures { result ≡ (if nat_lt node j then j else node) }
+{
+    if node < j { j } else { node }
+}
+
 /// The target node of the label of a segment or group that comes behind one of node j.
 pub(crate) fn label_target(
     found: &mut Vec<Failure>,
@@ -149,7 +156,7 @@ pub(crate) fn label_target(
 ) -> Result<TargetNode, AllocError>
     ensures failures { OnOk result (Notes found.old found.new (spec.label_failures (nodes_in level.entry) (is_kind kind) j line label.now)) }
     ensures child { IfOk result (λ a. a.child ≡ spec.node_or 0 (nodes_in level.entry) label.now) }
-    ensures node { IfOk result (λ a. a.node ≡ spec.node_or j (nodes_in level.entry) label.now) }
+    ensures node { IfOk result (λ a. a.node ≡ spec.after j (nodes_in level.entry) label.now) }
 {
     let number = labelled(level, label);
     let node = number.unwrap_or(j);
@@ -157,7 +164,7 @@ pub(crate) fn label_target(
     note_target(found, line, fits, j, node)?;
     Ok(TargetNode {
         child: number.unwrap_or(0),
-        node,
+        node: after(j, node),
     })
 }
 
@@ -170,9 +177,9 @@ pub(crate) fn flat_target(
     items: &[Item],
 ) -> Result<usize, AllocError>
     ensures failures { OnOk result (Notes found.old found.new (spec.flat_failures (nodes_in level.entry) j line (spec.labels (all_items items.now)))) }
-    ensures node { IfOk result (λ node. node ≡ spec.node_or j (nodes_in level.entry) (spec.first_or (spec.labels (all_items items.now)))) }
+    ensures node { IfOk result (λ node. node ≡ spec.after j (nodes_in level.entry) (spec.first_or (spec.labels (all_items items.now)))) }
 {
     let node = labelled(level, first_or(items)).unwrap_or(j);
     note_target(found, line, are_one(items), j, node)?;
-    Ok(node)
+    Ok(after(j, node))
 }

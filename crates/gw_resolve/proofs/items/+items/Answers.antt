@@ -25,7 +25,7 @@ group-returns t c =
           (record { line = c.args.made.now.line; child = c.in_ok-aimed.aimed.child; place = c.in_ok-there.there.place; condition = c.in_ok-there.there.condition; items = c.in_ok-items.items }) rest
           refl child c.in_ok-there.ensures.place c.in_ok-there.ensures.condition
           (c.in_ok-items.ensures.items tables ∙ (λ i. spec.resolved_items tables (inner i) (below i) (raw.all_items (c.deref-3.ensures.value i))));
-      node = c.in_ok-aimed.ensures.node ∙ ap (spec.node_or c.args.j (nodes_in c.args.level)) c.deref.ensures.value ∙ group_reached (nodes_in c.args.level) c.args.j c.args.made.now;
+      node = c.in_ok-aimed.ensures.node ∙ ap (spec.after c.args.j (nodes_in c.args.level)) c.deref.ensures.value ∙ group_reached (nodes_in c.args.level) c.args.j c.args.made.now;
       paths =
           hidden _ _ _ _ _ _ _ _ c.in_ok-there.ensures.kept (noted_twice _ _ _ _ _ c.in_ok-there.ensures.failures c.in_ok-items.ensures.paths) c.hide.ensures
           (walked_paths (walked c.args.scope.now) _ c.args.made.now.line (raw.walk c.args.made.now.walk) (EachAs c.args.made.now) _ _ _ (ap (spec.path_failures (walked c.args.scope.now)) (group_items c.args.made.now nothing)) c.in_ok-there.ensures.leads inner c.deref-3.ensures.value);

@@ -16,7 +16,7 @@ returns c =
           rw (← c.deref.ensures.value, ← c.deref-3.ensures.value)
           (λ i. segment_item (record { line = c.args.made.now.line; child = c.in_ok-aimed.ensures.child i; place = Some (c.in_ok-there.ensures.place i); condition = c.in_ok-there.ensures.condition i; rules = (c.in_ok-rules.ensures.made tables ∙ ap (λ s. map (spec.rule tables s) (map rule c.deref-3.result.now)) inner) i })
           (spec.resolved_items tables (walked c.args.scope.now) (nodes_in c.args.level) rest));
-      node = c.in_ok-aimed.ensures.node ∙ ap (spec.node_or c.args.j (nodes_in c.args.level)) c.deref.ensures.value;
+      node = c.in_ok-aimed.ensures.node ∙ ap (spec.after c.args.j (nodes_in c.args.level)) c.deref.ensures.value;
       paths =
           hidden _ _ _ _ _ _ _ _ c.in_ok-there.ensures.kept (noted_twice _ _ _ _ _ c.in_ok-there.ensures.failures c.in_ok-rules.ensures.failures) c.hide.ensures
           (from_paths (walked c.args.scope.now) _ c.args.made.now _ _ c.in_ok-there.ensures.leads inner c.deref-3.ensures.value);
