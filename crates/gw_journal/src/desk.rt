@@ -60,7 +60,14 @@ impl<J: Naming, S: Storage + Drop> Model for Desk<J, S> {
 
     ghost Value = { DeskState S };
 
-    ghost view = { λ d. record { storage = d.storage; batch = records_of d.batch.items; given = d.given; settled = d.settled; history = d.history; fault = is_some d.fault } };
+    ghost view = { λ d. record {
+      storage = d.storage;
+      batch = records_of d.batch.items;
+      given = d.given;
+      settled = d.settled;
+      history = d.history;
+      fault = is_some d.fault;
+    } };
 
     ghost invariant = { λ d. (is_some d.fault ≡ false → IsTrue S.stands d.storage (records_of d.batch.items) d.given d.settled (log_in J.before d.history))
         × (d.settled ≤ (log_in J.before d.history).synced) };
@@ -83,7 +90,13 @@ impl<J: Naming, S: Storage + Drop> Model for Job<J, S> {
 
     ghost view = { λ j. record { storage = j.storage; batch = records_of j.batch.items; given = j.given; settled = j.settled; history = j.front } };
 
-    ghost invariant = { λ j. IsJob S.stands (record { storage = j.storage; batch = records_of j.batch.items; given = j.given; settled = j.settled; history = j.front }) (log_in J.before j.front) };
+    ghost invariant = { λ j. IsJob S.stands (record {
+      storage = j.storage;
+      batch = records_of j.batch.items;
+      given = j.given;
+      settled = j.settled;
+      history = j.front;
+    }) (log_in J.before j.front) };
 }
 
 /// The storage, which has all that was put when it was taken.
@@ -103,7 +116,13 @@ impl<J: Naming, S: Storage + Drop> Model for Done<J, S> {
 
     ghost view = { λ j. record { storage = j.storage; batch = []; given = j.given; settled = j.settled; history = j.front } };
 
-    ghost invariant = { λ j. IsDone S.stands (record { storage = j.storage; batch = []; given = j.given; settled = j.settled; history = j.front }) (log_in J.before j.front) };
+    ghost invariant = { λ j. IsDone S.stands (record {
+      storage = j.storage;
+      batch = [];
+      given = j.given;
+      settled = j.settled;
+      history = j.front;
+    }) (log_in J.before j.front) };
 }
 
 impl<J: Naming> Receipt<J> {
