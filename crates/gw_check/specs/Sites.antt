@@ -1,5 +1,6 @@
 -- What each line of a map makes, and of what.
 use Rattle.std.specs.Prelude.{ℕ, ◌==◌, List, [], ◌∷◌, ◌++◌, flat_map, find, Option, Some, None, option_to_list}
+use Rattle.gw_maplang.specs.declared.rule.DateDigits.{DateDigits}
 use Rattle.gw_maplang.specs.Shapes.{Rows}
 use Rattle.gw_resolve.specs.Places.{Place}
 use Rattle.gw_resolve.specs.Resolved.{Reference, FieldCondition, Source, of_field, of_current, Leaf, const, copied, looked_up, dated, Alternative, At, alternatives, Making, copy, first, repeat, build, Rule, SegmentItem, Items, no_items, segment_item, group_item, flat_item, first_child}
@@ -22,7 +23,7 @@ pub data Origin : Type 0 where
   read : (from : Spot) → Origin
   repeated : (from : Spot) → Origin
   given : (rows : Rows) (from : Spot) → Origin
-  cut : (digits : ℕ) (from : Spot) → Origin
+  cut : (digits : DateDigits) (from : Spot) → Origin
 
 -- the element of the target that a line makes, and of what
 pub record Site : Type 0 where

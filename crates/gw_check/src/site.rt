@@ -1,5 +1,7 @@
 //! What a line of a map makes, and of what.
 
+use gw_maplang::DateDigits;
+
 /// An element of a profile: a node, by the numbers of the nodes that lead to it from the top on, each from 0, or in it a field, a component, a subcomponent. 0 is said where the whole is meant.
 #[derive(Drop)]
 pub struct ElementPath {
@@ -24,8 +26,8 @@ pub enum Origin {
     Repeated(ElementPath),
     /// What the table of this name gives for an element of the source.
     LookedUp(Vec<u8>, ElementPath),
-    /// The first digits, as many as said, of an element of the source.
-    Dated(u32, ElementPath),
+    /// The first digits of an element of the source.
+    Dated(DateDigits, ElementPath),
 }
 
 /// The element of the target that a line makes, and of what.

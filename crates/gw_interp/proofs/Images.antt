@@ -19,11 +19,12 @@ use Rattle.gw_profile.proofs.Facts.{both, le_is}
 use Rattle.gw_validate.specs.Breaches.{is_null}
 use Rattle.gw_validate.specs.Conforming.{segment_at}
 use Rattle.gw_validate.proofs.Nexts.{some_counted}
+use Rattle.gw_maplang.specs.declared.rule.DateDigits.{DateDigits}
 use Rattle.gw_resolve.specs.Places.{Place}
 use Rattle.gw_resolve.specs.Resolved.{Source, of_field, of_current, Leaf, const, copied, looked_up, dated, Alternative, At, alternatives, leaf_at, Making, copy, first, repeat, build, Rule, rule_of}
 use Rattle.gw_resolve.specs.Lawful.{LawfulSource, LawfulLeaf, LawfulAt, LawfulLeaves, LawfulMaking, LawfulRule, LawfulRules}
 use Rattle.gw_interp.specs.Occurrences.{Occurrence, a_segment, nodes, at_place, texts_of_first, texts_at}
-use Rattle.gw_interp.specs.Meaning.{InFirst, InFirstOf, IsChosen, InNth, Walked, walking, SourceMeans, first_digits, LeafMeans, FirstText, AtMeans, Where, MakingMeans, RuleMeans, IsImage}
+use Rattle.gw_interp.specs.Meaning.{InFirst, InFirstOf, IsChosen, InNth, Walked, walking, SourceMeans, is_asked, starts_with, longest, date_lengths, first_digits, LeafMeans, FirstText, AtMeans, Where, MakingMeans, RuleMeans, IsImage}
 use Rattle.gw_interp.proofs.Lists.{found_test, found_all}
 use Rattle.gw_interp.proofs.Shaped.{text_there}
 use Rattle.gw_interp.proofs.Leaves.{given_value, LooksUp, of_none, of_null, of_value, looks_up}
@@ -108,16 +109,20 @@ digits_canonical (b ∷ text) e =
     let rest = digits_canonical text p.1 in
     record { items = Plain b ∷ rest.items; whole = ap (λ (x : List ℕ). b ∷ x) rest.whole; each = (digit_plain b p.0, rest.each) }
 
-date_canonical : (digits : ℕ) (from : List ℕ) → IsCanonical from → IsCanonical (first_digits digits from)
-date_canonical digits from is = null (is_null from) refl
+longest_canonical : (digits : DateDigits) (counts from : List ℕ) → IsCanonical (longest digits counts from)
+longest_canonical digits [] from = none_canonical
+longest_canonical digits (count ∷ counts) from = by (is_asked digits count && starts_with count from) refl (longest_canonical digits counts from)
   where
-    found : (b : Bool) → nat_le digits (length from) && list_all is_digit (take digits from) ≡ b → IsCanonical (if b then take digits from else [])
-    found true e = digits_canonical (take digits from) (both (nat_le digits (length from)) _ e).1
-    found false e = none_canonical
+    by : (b : Bool) → is_asked digits count && starts_with count from ≡ b → IsCanonical (longest digits counts from) → IsCanonical (if b then take count from else longest digits counts from)
+    by true e rest = digits_canonical (take count from) (both (nat_le count (length from)) _ (both (is_asked digits count) (starts_with count from) e).1).1
+    by false e rest = rest
 
-    null : (b : Bool) → is_null from ≡ b → IsCanonical (if b then from else if nat_le digits (length from) && list_all is_digit (take digits from) then take digits from else [])
-    null true e = is
-    null false e = found (nat_le digits (length from) && list_all is_digit (take digits from)) refl
+date_canonical : (digits : DateDigits) (from : List ℕ) → IsCanonical from → IsCanonical (first_digits digits from)
+date_canonical digits from is = by (is_null from)
+  where
+    by : (b : Bool) → IsCanonical (if b then from else longest digits date_lengths from)
+    by true = is
+    by false = longest_canonical digits date_lengths from
 
 module _ (w : Walked) (places : (place : Place) → AreEntries 1 (texts_at w.message w.scope place)) where
   first_canonical : (place : Place) (field comp sub : ℕ) (text : List ℕ) → InFirst (texts_at w.message w.scope place) field comp sub text → IsCanonical text

@@ -12,6 +12,7 @@ use Rattle.gw_profile.specs.Shapes.{FieldValue}
 use Rattle.gw_profile.proofs.Among.{among_append}
 use Rattle.gw_profile.proofs.Facts.{both, neither, both_false, no_clash, le_is, le_test}
 use Rattle.gw_validate.specs.Breaches.{is_null}
+use Rattle.gw_maplang.specs.declared.rule.DateDigits.{DateDigits}
 use Rattle.gw_maplang.specs.Shapes.{Row, Rows, second_of}
 use Rattle.gw_maplang.specs.Lawful.{LawfulRow}
 use Rattle.gw_resolve.specs.Failures.{Mark}
@@ -24,7 +25,7 @@ use Rattle.gw_leaves.specs.Counts as counts
 use Rattle.gw_leaves.specs.Components.{line_in, leaf_mark, leaf_lookups, other_lookups, lookup_failures, rule_lookups}
 use Rattle.gw_resolve.specs.Lawful.{LawfulRows, LawfulLeaf}
 use Rattle.gw_interp.specs.Occurrences.{texts_at}
-use Rattle.gw_interp.specs.Meaning.{Walked, SourceMeans, LeafMeans, look_up, first_digits, walking}
+use Rattle.gw_interp.specs.Meaning.{Walked, SourceMeans, LeafMeans, look_up, is_asked, starts_with, longest, date_lengths, first_digits, walking}
 use Rattle.gw_interp.specs.own.Sourced.{IsFault, NoFaultOf}
 use Rattle.gw_interp.specs.own.Ready.{NoFaultIn}
 use Rattle.gw_interp.proofs.Chosen.{chosen_there}
@@ -116,24 +117,38 @@ looks_up table (b ∷ bytes) text e = by (is_null (b ∷ bytes)) refl e
 
 -- ---- dates
 
-none_dated : (digits : ℕ) → first_digits digits [] ≡ []
-none_dated zero = refl
-none_dated (suc digits) = by (nat_le (suc digits) 0 && list_all is_digit (take (suc digits) []))
-  where
-    by : (b : Bool) → ◌≡◌ {A = List ℕ} (if b then take {A = ℕ} (suc digits) [] else []) []
-    by true = refl
-    by false = refl
+none_taken : (count : ℕ) → take {A = ℕ} count [] ≡ []
+none_taken zero = refl
+none_taken (suc count) = refl
 
-date_short : (digits : ℕ) (from : List ℕ) → is_null (first_digits digits from) ≡ false → nat_le (length (first_digits digits from)) digits ≡ true
-date_short digits from = null (is_null from) refl
+none_longest : (digits : DateDigits) (counts : List ℕ) → longest digits counts [] ≡ []
+none_longest digits [] = refl
+none_longest digits (count ∷ counts) = by (is_asked digits count && starts_with count []) (none_longest digits counts)
   where
-    found : (b : Bool) → nat_le digits (length from) && list_all is_digit (take digits from) ≡ b → nat_le (length (if b then take digits from else [])) digits ≡ true
-    found true e = le_test _ digits (subst (λ n. n ≤ digits) (sym (length-take-le digits from (le_is digits (length from) (both (nat_le digits (length from)) _ e).0))) (omega arith))
-    found false e = le_test 0 digits (omega arith)
+    by : (b : Bool) → longest digits counts [] ≡ [] → ◌≡◌ {A = List ℕ} (if b then take {A = ℕ} count [] else longest digits counts []) []
+    by true rest = none_taken count
+    by false rest = rest
 
-    null : (b : Bool) → is_null from ≡ b → is_null (if b then from else if nat_le digits (length from) && list_all is_digit (take digits from) then take digits from else []) ≡ false → nat_le (length (if b then from else if nat_le digits (length from) && list_all is_digit (take digits from) then take digits from else [])) digits ≡ true
-    null true e other = absurd (no_clash (sym e ∙ other))
-    null false e other = found (nat_le digits (length from) && list_all is_digit (take digits from)) refl
+none_dated : (digits : DateDigits) → first_digits digits [] ≡ []
+none_dated digits = none_longest digits date_lengths
+
+longest_short : (digits : DateDigits) (counts from : List ℕ) → nat_le (length (longest digits counts from)) digits.most ≡ true
+longest_short digits [] from = le_test 0 digits.most (omega arith)
+longest_short digits (count ∷ counts) from = by (is_asked digits count && starts_with count from) refl (longest_short digits counts from)
+  where
+    by : (b : Bool) → is_asked digits count && starts_with count from ≡ b → nat_le (length (longest digits counts from)) digits.most ≡ true → nat_le (length (if b then take count from else longest digits counts from)) digits.most ≡ true
+    by true e rest =
+        let p = both (is_asked digits count) (starts_with count from) e in
+        let there : count ≤ length from = le_is count (length from) (both (nat_le count (length from)) _ p.1).0 in
+        subst (λ n. nat_le n digits.most ≡ true) (sym (length-take-le count from there)) (both (nat_le digits.least count) _ p.0).1
+    by false e rest = rest
+
+date_short : (digits : DateDigits) (from : List ℕ) → is_null (first_digits digits from) ≡ false → nat_le (length (first_digits digits from)) digits.most ≡ true
+date_short digits from = by (is_null from) refl
+  where
+    by : (b : Bool) → is_null from ≡ b → is_null (if b then from else longest digits date_lengths from) ≡ false → nat_le (length (if b then from else longest digits date_lengths from)) digits.most ≡ true
+    by true e other = absurd (no_clash (sym e ∙ other))
+    by false e other = longest_short digits date_lengths from
 
 never_sure : (p : Presence) → is_always (perhaps p) ≡ true → ⊥
 never_sure Always e = absurd (cc)
@@ -185,7 +200,7 @@ module _ (names : List (List ℕ)) (s : Sources) (w : Walked) (has : HasTables n
       record {
         always = λ a. absurd (never_sure (source_shape s source).presence a);
         absent = λ a. means.2 ∙ ap (first_digits digits) (shaped.absent (still_absent (source_shape s source).presence a)) ∙ none_dated digits;
-        values = λ some other. subst (λ t. nat_le (length t) digits ≡ true) (sym means.2) (date_short digits means.0 (subst (λ t. is_null t ≡ false) means.2 other));
+        values = λ some other. subst (λ t. nat_le (length t) digits.most ≡ true) (sym means.2) (date_short digits means.0 (subst (λ t. is_null t ≡ false) means.2 other));
       }
 
   -- ---- a repetition that is walked

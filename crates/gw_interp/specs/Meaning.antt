@@ -9,6 +9,7 @@ use Rattle.gw_profile.specs.Shapes.{Forest, ProfileValue}
 use Rattle.gw_validate.specs.Breaches.{is_null, Counted}
 use Rattle.gw_validate.specs.Cuts.{Cut}
 use Rattle.gw_validate.specs.Trees.{Tree}
+use Rattle.gw_maplang.specs.declared.rule.DateDigits.{DateDigits}
 use Rattle.gw_maplang.specs.Shapes.{Rows, Condition}
 use Rattle.gw_resolve.specs.Places.{Place, child, nodes_of_child, name_of}
 use Rattle.gw_resolve.specs.Resolved.{Reference, FieldCondition, Source, of_field, of_current, Leaf, const, copied, looked_up, dated, Alternative, At, alternatives, leaf_at, Making, copy, first, repeat, build, Rule, rule_of, Items, no_items, segment_item, group_item, flat_item, Resolved}
@@ -56,10 +57,25 @@ abbrev pub look_up : Rows → List ℕ → Option (List ℕ)
 look_up table [] = Some []
 look_up table (b ∷ bytes) = if is_null (b ∷ bytes) then Some (b ∷ bytes) else given table (b ∷ bytes)
 
--- the first digits of a date and time, absent where there are fewer; "" stays ""
-abbrev pub first_digits : ℕ → List ℕ → List ℕ
-first_digits digits text =
-    if is_null text then text else if nat_le digits (length text) && list_all is_digit (take digits text) then take digits text else []
+abbrev pub is_asked : DateDigits → ℕ → Bool
+is_asked digits count = nat_le digits.least count && nat_le count digits.most
+
+-- so many digits stand at the front of a text
+abbrev pub starts_with : ℕ → List ℕ → Bool
+starts_with count text = nat_le count (length text) && list_all is_digit (take count text)
+
+-- the first octets of a text, by the first of these numbers that is asked for and counts digits alone; absent where none is
+abbrev pub longest : DateDigits → List ℕ → List ℕ → List ℕ
+longest digits [] text = []
+longest digits (count ∷ counts) text = if is_asked digits count && starts_with count text then take count text else longest digits counts text
+
+-- the numbers of digits of dates and times, the greatest first (HL7 v2.5.1 chapter 2A, "DTM")
+abbrev pub date_lengths : List ℕ
+date_lengths = 14 ∷ 12 ∷ 10 ∷ 8 ∷ 6 ∷ 4 ∷ []
+
+-- the first digits of a date and time, as many as are there; absent where there are fewer than the least; "" stays ""
+abbrev pub first_digits : DateDigits → List ℕ → List ℕ
+first_digits digits text = if is_null text then text else longest digits date_lengths text
 
 abbrev pub LeafMeans : Walked → Leaf → List ℕ → Type 0
 LeafMeans w (const value) text = text ≡ value

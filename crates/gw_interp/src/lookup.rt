@@ -1,5 +1,5 @@
 //! The texts of leaves.
-ghost use Rattle.std.specs.Prelude.{◌≡◌, List, map, unwrap_or};
+ghost use Rattle.std.specs.Prelude.{◌≡◌, ◌&&◌, List, map, unwrap_or};
 ghost use Rattle.std.specs.List.{list_all};
 ghost use Rattle.gw_lines.specs.Spelled.{is_digit};
 ghost use Rattle.gw_er7.specs.Message.{SegmentValue};
@@ -11,11 +11,11 @@ ghost use Rattle.gw_resolve.specs.Resolved.{alternatives};
 ghost use Rattle.gw_resolve.specs.Seen.{leaf as seen_leaf, alternative, at_leaf};
 ghost use Rattle.gw_validate.specs.Breaches.{is_null};
 ghost use Rattle.gw_interp.specs.own.Borrowed.{AreOf};
-ghost use Rattle.gw_interp.specs.Meaning.{look_up, first_digits};
+ghost use Rattle.gw_interp.specs.Meaning.{look_up, is_asked, starts_with, longest, first_digits};
 ghost use Rattle.gw_interp.specs.own.Sourced.{walks, LeafGives, settles, FirstGives};
 
 use crate::reading::{Reading, source_text};
-use gw_maplang::{Map, Table};
+use gw_maplang::{DateDigits, Map, Table};
 use gw_resolve::{Alternative, At, ResolvedLeaf};
 
 fn is_null(text: &[u8]) -> bool
@@ -53,17 +53,34 @@ fn are_digits(text: &[u8]) -> bool
     text.iter().all(|byte| byte.is_ascii_digit())
 }
 
-// The first digits of a date and time, empty where there are fewer. `""` stays `""`.
-fn first_digits(digits: usize, text: &[u8]) -> &[u8]
+fn takes_digits(digits: DateDigits, count: u32, text: &[u8]) -> bool
+    ensures { result ≡ (is_asked digits count && starts_with count text.now) }
+{
+    let is_asked = digits.least <= count && count <= digits.most;
+    let count = count as usize;
+    is_asked && (count <= text.len() && are_digits(&text[..count]))
+}
+
+// The first octets of a text, by the first of these numbers that is asked for and counts digits alone; empty where none is.
+fn longest<'a>(digits: DateDigits, counts: &[u32], text: &'a [u8]) -> &'a [u8]
+    ensures { result.now ≡ longest digits counts.now text.now }
+{
+    for count in counts {
+        if takes_digits(digits, *count, text) {
+            return &text[..*count as usize];
+        }
+    }
+    &[]
+}
+
+// The first digits of a date and time, empty where there are fewer than the least. `""` stays `""`.
+fn first_digits(digits: DateDigits, text: &[u8]) -> &[u8]
     ensures { result.now ≡ first_digits digits text.now }
 {
     if is_null(text) {
         return text;
     }
-    if digits <= text.len() && are_digits(&text[..digits]) {
-        return &text[..digits];
-    }
-    &[]
+    longest(digits, &[14, 12, 10, 8, 6, 4], text)
 }
 
 // The text of a leaf, empty where it is absent. `None` if its table has nothing for what is read.
@@ -79,7 +96,7 @@ fn leaf_text<'a>(
         ResolvedLeaf::Copied(source) => Some(source_text(reading, source)),
         ResolvedLeaf::LookedUp(name, source) => look_up(map, name, source_text(reading, source)),
         ResolvedLeaf::Dated(digits, source) => {
-            Some(first_digits(*digits as usize, source_text(reading, source)))
+            Some(first_digits(*digits, source_text(reading, source)))
         }
     }
 }

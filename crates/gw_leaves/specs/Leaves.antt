@@ -142,7 +142,7 @@ leaf_shape s (copied source) = source_shape s source
 leaf_shape s (looked_up table source) =
     record { presence = (source_shape s source).presence; values = listed (given_values table (source_shape s source).values) }
 leaf_shape s (dated digits source) =
-    record { presence = perhaps (source_shape s source).presence; values = any Octets (Some digits) }
+    record { presence = perhaps (source_shape s source).presence; values = any Octets (Some digits.most) }
 
 -- of the first of two texts that is there
 abbrev pub either : Presence → Presence → Presence

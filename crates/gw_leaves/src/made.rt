@@ -57,23 +57,23 @@ fn check_source(
     check_values(found, sources.context, mark, presence, given, sub)
 }
 
-// Of the first digits of a text: each table lacks some of them, and their number is their greatest length.
+// Of the first digits of a text: each table lacks some of them, and they are no more than the most.
 fn check_dated(
     found: &mut Vec<Failure>,
     target: &Profile,
     mark: FailureSite,
     presence: Presence,
-    digits: u32,
+    most: u32,
     sub: &SubShape,
 ) -> Result<(), AllocError>
-    ensures { OnOk result (Notes found.old found.new (seen.dated_failures target.now mark presence digits sub.now)) }
+    ensures { OnOk result (Notes found.old found.new (seen.dated_failures target.now mark presence most sub.now)) }
 {
     if is_absent(presence) {
         return Ok(());
     }
     let is_unlisted = table_named(target, table_of(Some(sub))).is_some();
     note(found, 6, mark, is_unlisted)?;
-    let values = Values::Any(Some(digits), Count::Octets);
+    let values = Values::Any(Some(most), Count::Octets);
     let is_long = may_be_long(&values, sub.len, target.count());
     note(found, 7, mark, is_long)
 }
@@ -99,7 +99,7 @@ fn check_leaf(
         }
         ResolvedLeaf::Dated(digits, source) => {
             let presence = source_presence(sources, source);
-            check_dated(found, target, mark, presence, *digits, sub)
+            check_dated(found, target, mark, presence, digits.most, sub)
         }
     }
 }

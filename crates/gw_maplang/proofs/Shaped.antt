@@ -1,8 +1,9 @@
 -- What the words of a line say of it.
-use Rattle.std.proofs.Common.{◌≡◌, ℕ, ◌≤◌, ◌+◌, Bool, true, false, List, [], ◌∷◌, length, Option, Some, None, suc, refl, sym, ap, ◌∙◌, arith}
-use Rattle.std.specs.Prelude.{IfSome, codes, not, ◌&&◌, nat_le, if◌then◌else◌}
+use Rattle.std.proofs.Common.{◌≡◌, ℕ, ◌<◌, ◌≤◌, ◌+◌, Bool, true, false, List, [], ◌∷◌, length, Option, Some, None, suc, refl, sym, ap, ◌∙◌, arith}
+use Rattle.std.specs.Prelude.{IfSome, codes, not, ◌&&◌, nat_le, nat_lt, if◌then◌else◌}
 use Rattle.std.specs.List.{AllByRecursion, list_all, slice_split, before_first, count_by}
 use Rattle.std.specs.Option.{option_map}
+use Rattle.std.proofs.lemmas.Bool.Decides.{Decides-ltb}
 use Rattle.std.proofs.lemmas.List.Splits.{length-slice_split}
 use Rattle.gw_lines.specs.Words.{Word}
 use Rattle.gw_lines.specs.Spelled.{is_name, is_dot, number, is_keyword}
@@ -10,12 +11,13 @@ use Rattle.gw_lines.specs.Values.{bytes_of}
 use Rattle.gw_lines.specs.Parts.{first_word, name_at, number_at, behind, with_all}
 use Rattle.gw_profile.proofs.Facts.{both, le_is}
 use Rattle.gw_profile.proofs.Shaped.{any, gives, map_gives, chosen, either_gives, with_all_is, number_is, name_at_is, number_at_is}
+use Rattle.gw_maplang.specs.declared.rule.DateDigits.{DateDigits}
 use Rattle.gw_maplang.specs.declared.rule.LeafPlace.{LeafPlace}
 use Rattle.gw_maplang.specs.Among.{Distinct}
 use Rattle.gw_maplang.specs.Columns.{behind_first, is_table_word}
 use Rattle.gw_maplang.specs.Shapes.{Path, FieldPath, Ref, Field, Current, Leaf, Const, Copy, Lookup, Date, LeafValue, Condition, FieldCondition, Walk, Making, Copies, Firsts, Repeats, Builds}
-use Rattle.gw_maplang.specs.Lawful.{LawfulPath, LawfulField, LawfulFieldPath, LawfulPlace, LawfulDrop, is_date_length, last_label, places}
-use Rattle.gw_maplang.specs.Line.{Line, Begins, Language, Table, Rows, Else, Segment, Makes, At, Or, Each, End, Drops, is_slash, is_dash, path_of, field_of, field_path, sub_of, place_of, place_or_first, field_ref, ref_of, dropped_field, drop_of, constant, plain_word, plain_at, either_at, first_or_at, text_at, some_bytes, texts, most_columns, some_texts, values_form, where_at, condition_form, condition_at, field_place, asked_at, field_condition_form, field_condition_at, walk_form, table_word, from_at, const_form, copy_form, lookup_form, date_length, date_from, date_form, leaf_of, leaf_form, own_leaves, map_form, language_form, table_form, row_form, else_form, source_behind, source_form, segment_form, made_from, chosen_from, copies_form, firsts_form, repeats_form, builds_form, at_form, or_form, each_form, group_form, drop_form, rule_form, keyword_form, form}
+use Rattle.gw_maplang.specs.Lawful.{LawfulPath, LawfulField, LawfulFieldPath, LawfulPlace, LawfulDrop, LawfulDigits, is_date_length, last_label, places}
+use Rattle.gw_maplang.specs.Line.{Line, Begins, Language, Table, Rows, Else, Segment, Makes, At, Or, Each, End, Drops, is_slash, is_dash, path_of, field_of, field_path, sub_of, place_of, place_or_first, field_ref, ref_of, dropped_field, drop_of, constant, plain_word, plain_at, either_at, first_or_at, text_at, some_bytes, texts, most_columns, some_texts, values_form, where_at, condition_form, condition_at, field_place, asked_at, field_condition_form, field_condition_at, walk_form, table_word, from_at, const_form, copy_form, lookup_form, date_length, date_most, date_behind, date_digits, date_from, date_form, leaf_of, leaf_form, own_leaves, map_form, language_form, table_form, row_form, else_form, source_behind, source_form, segment_form, made_from, chosen_from, copies_form, firsts_form, repeats_form, builds_form, at_form, or_form, each_form, group_form, drop_form, rule_form, keyword_form, form}
 
 abbrev pub ShapedRef : Ref → Type 0
 ShapedRef (Field from place) = LawfulFieldPath from × LawfulPlace place
@@ -25,7 +27,7 @@ abbrev pub ShapedLeaf : Leaf → Type 0
 ShapedLeaf (Const value) = Unit {0}
 ShapedLeaf (Copy ref) = ShapedRef ref
 ShapedLeaf (Lookup table ref) = (is_table_word table ≡ true) × ShapedRef ref
-ShapedLeaf (Date digits ref) = (is_date_length digits ≡ true) × ShapedRef ref
+ShapedLeaf (Date digits ref) = LawfulDigits digits × ShapedRef ref
 
 abbrev pub ShapedLeafValue : LeafValue → Type 0
 ShapedLeafValue l = LawfulPlace l.place × ShapedLeaf l.leaf × (l.others ≡ [])
@@ -165,15 +167,33 @@ lookup_form_is words =
     gives (λ p. is_table_word p.0 ≡ true) ShapedLeaf (plain_at table_word words) _ (plain_at_is (λ word. is_table_word word ≡ true) table_word table_word_is words)
     (λ table u. gives (λ p. ShapedRef p.0) ShapedLeaf (first_or_at ref_of table.1) _ (first_or_at_is ShapedRef ref_of ref_of_is table.1) (λ ref h. with_all_is ShapedLeaf ref.1 (Lookup table.0 ref.0) (u, h)))
 
+ordered : (a b : ℕ) → nat_lt a b ≡ true → a ≤ b
+ordered a b e = let less : a < b = (Decides-ltb a b).0 e in omega arith
+
 date_length_is : (bytes : List ℕ) → IfSome (date_length bytes) (λ n. is_date_length n ≡ true)
 date_length_is bytes = gives (λ _. Unit {0}) (λ n. is_date_length n ≡ true) (number 4 14 bytes) _ (any (number 4 14 bytes)) (λ n u. chosen (λ k. is_date_length k ≡ true) (is_date_length n) n (λ e. e))
 
-date_from_is : (digits : ℕ) (words : List Word) → is_date_length digits ≡ true → IfSome (date_from digits words) ShapedLeaf
+date_most_is : (least : ℕ) (bytes : List ℕ) → is_date_length least ≡ true → IfSome (date_most least bytes) LawfulDigits
+date_most_is least [] h = tt
+date_most_is least (b ∷ bytes) h =
+    gives (λ n. is_date_length n ≡ true) LawfulDigits (date_length bytes) _ (date_length_is bytes)
+    (λ most g. chosen LawfulDigits (is_dot b && nat_lt least most) (record { least = least; most = most }) (λ e. record { least = h; most = g; order = ordered least most (both (is_dot b) _ e).1 }))
+
+date_behind_is : (least : ℕ) (bytes : Option (List ℕ)) → is_date_length least ≡ true → IfSome (date_behind least bytes) LawfulDigits
+date_behind_is least None h = record { least = h; most = h; order = omega arith }
+date_behind_is least (Some bytes) h = date_most_is least bytes h
+
+date_digits_is : (bytes : List ℕ) → IfSome (date_digits bytes) LawfulDigits
+date_digits_is bytes =
+    gives (λ n. is_date_length n ≡ true) LawfulDigits (date_length (before_first is_dot bytes)) _ (date_length_is (before_first is_dot bytes))
+    (λ least h. date_behind_is least (behind_first is_dot bytes) h)
+
+date_from_is : (digits : DateDigits) (words : List Word) → LawfulDigits digits → IfSome (date_from digits words) ShapedLeaf
 date_from_is digits words u = gives (λ p. ShapedRef p.0) ShapedLeaf (first_or_at ref_of words) _ (first_or_at_is ShapedRef ref_of ref_of_is words) (λ ref h. with_all_is ShapedLeaf ref.1 (Date digits ref.0) (u, h))
 
 date_form_is : (words : List Word) → IfSome (date_form words) ShapedLeaf
 date_form_is words =
-    gives (λ p. is_date_length p.0 ≡ true) ShapedLeaf (plain_at date_length words) _ (plain_at_is (λ n. is_date_length n ≡ true) date_length date_length_is words)
+    gives (λ p. LawfulDigits p.0) ShapedLeaf (plain_at date_digits words) _ (plain_at_is LawfulDigits date_digits date_digits_is words)
     (λ digits u. date_from_is digits.0 digits.1 u)
 
 leaf_of_is : (keyword : Word) (more : List Word) → IfSome (leaf_of keyword more) ShapedLeaf

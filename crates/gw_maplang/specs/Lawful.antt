@@ -3,6 +3,7 @@ use Rattle.std.specs.Prelude.{◌≡◌, ℕ, ◌≤◌, ◌==◌, ◌||◌, Boo
 use Rattle.std.specs.List.{AllByRecursion}
 use Rattle.gw_lines.specs.Spelled.{is_name}
 use Rattle.gw_lines.specs.Values.{is_value}
+use Rattle.gw_maplang.specs.declared.rule.DateDigits.{DateDigits}
 use Rattle.gw_maplang.specs.declared.rule.LeafPlace.{LeafPlace}
 use Rattle.gw_maplang.specs.Among.{Among, Distinct}
 use Rattle.gw_maplang.specs.Columns.{is_table_word}
@@ -51,12 +52,17 @@ LawfulRef repeated (Current place) = (repeated ≡ true) × LawfulPlace place
 abbrev pub is_date_length : ℕ → Bool
 is_date_length n = n == 4 || n == 6 || n == 8 || n == 10 || n == 12 || n == 14
 
+pub record LawfulDigits (d : DateDigits) : Type 0 where
+  pub least : is_date_length d.least ≡ true
+  pub most : is_date_length d.most ≡ true
+  pub order : d.least ≤ d.most
+
 -- Constants are canonical texts that aren't empty; each table that is named is in the map.
 abbrev pub LawfulLeaf : List (List ℕ) → Bool → Leaf → Type 0
 LawfulLeaf tables repeated (Const value) = is_value value ≡ true
 LawfulLeaf tables repeated (Copy ref) = LawfulRef repeated ref
 LawfulLeaf tables repeated (Lookup table ref) = Among table tables × LawfulRef repeated ref
-LawfulLeaf tables repeated (Date digits ref) = (is_date_length digits ≡ true) × LawfulRef repeated ref
+LawfulLeaf tables repeated (Date digits ref) = LawfulDigits digits × LawfulRef repeated ref
 
 abbrev pub LawfulOthers : List (List ℕ) → Bool → List Alternative → Type 0
 LawfulOthers tables repeated others = AllByRecursion (λ (o : Alternative). LawfulLeaf tables repeated o.leaf) others

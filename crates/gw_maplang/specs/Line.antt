@@ -1,11 +1,12 @@
 -- The lines of a map, and the words of each.
-use Rattle.std.specs.Prelude.{ℕ, Bool, true, false, not, ◌&&◌, ◌||◌, ◌==◌, nat_le, if◌then◌else◌, List, [], ◌∷◌, length, Option, Some, None, codes}
+use Rattle.std.specs.Prelude.{ℕ, Bool, true, false, not, ◌&&◌, ◌||◌, ◌==◌, nat_le, nat_lt, if◌then◌else◌, List, [], ◌∷◌, length, Option, Some, None, codes}
 use Rattle.std.specs.List.{list_all, list_any, slice_split, before_first}
 use Rattle.std.specs.Option.{option_map}
 use Rattle.gw_lines.specs.Words.{Word}
 use Rattle.gw_lines.specs.Spelled.{plain_bytes, is_keyword, is_name, is_dot, number}
 use Rattle.gw_lines.specs.Values.{bytes_of}
 use Rattle.gw_lines.specs.Parts.{first_word, name_at, number_at, behind, with_all, ◌>>=◌}
+use Rattle.gw_maplang.specs.declared.rule.DateDigits.{DateDigits}
 use Rattle.gw_maplang.specs.declared.rule.LeafPlace.{LeafPlace}
 use Rattle.gw_maplang.specs.Shapes.{Path, FieldPath, Ref, Field, Current, Leaf, Const, Copy, Lookup, Date, Alternative, LeafValue, Condition, FieldCondition, Walk, Copies, Firsts, Repeats, Builds, RuleValue, DropValue}
 use Rattle.gw_maplang.specs.Columns.{WideRow, behind_first, is_table_word}
@@ -252,16 +253,33 @@ date_length bytes = do
   n ← number 4 14 bytes
   if is_date_length n then Some n else None
 
--- [first] REF, behind date N
-abbrev pub date_from : ℕ → List Word → Option Leaf
+-- B behind A.., which is greater
+abbrev pub date_most : ℕ → List ℕ → Option DateDigits
+date_most least [] = None
+date_most least (b ∷ bytes) = do
+  most ← date_length bytes
+  if is_dot b && nat_lt least most then Some (record { least = least; most = most }) else None
+
+abbrev pub date_behind : ℕ → Option (List ℕ) → Option DateDigits
+date_behind least None = Some (record { least = least; most = least })
+date_behind least (Some bytes) = date_most least bytes
+
+-- N, or A..B
+abbrev pub date_digits : List ℕ → Option DateDigits
+date_digits bytes = do
+  least ← date_length (before_first is_dot bytes)
+  date_behind least (behind_first is_dot bytes)
+
+-- [first] REF, behind date N or date A..B
+abbrev pub date_from : DateDigits → List Word → Option Leaf
 date_from digits words = do
   ref ← first_or_at ref_of words
   with_all ref.1 (Date digits ref.0)
 
--- date N [first] REF
+-- date N [first] REF, date A..B [first] REF
 abbrev pub date_form : List Word → Option Leaf
 date_form words = do
-  digits ← plain_at date_length words
+  digits ← plain_at date_digits words
   date_from digits.0 digits.1
 
 -- LEAF, by its keyword

@@ -1,5 +1,6 @@
 -- The parts of a map, without where they lie in memory.
 use Rattle.std.specs.Prelude.{ℕ, Bool, if◌then◌else◌, List, [], ◌∷◌, Option, Some, None, bytes_eq}
+use Rattle.gw_maplang.specs.declared.rule.DateDigits.{DateDigits}
 use Rattle.gw_maplang.specs.declared.rule.LeafPlace.{LeafPlace}
 
 -- labels that lead to a segment or group, from the outermost on
@@ -22,8 +23,8 @@ pub data Leaf : Type 0 where
   Const : (value : List ℕ) → Leaf
   Copy : (ref : Ref) → Leaf
   Lookup : (table : List ℕ) (ref : Ref) → Leaf
-  -- the first digits of a date and time, as many as said
-  Date : (digits : ℕ) (ref : Ref) → Leaf
+  -- the first digits of a date and time, as many as are there from the least to the most
+  Date : (digits : DateDigits) (ref : Ref) → Leaf
 
 -- a leaf that stands for those above it of its place, and its line
 pub record Alternative : Type 0 where

@@ -10,12 +10,12 @@ ghost use Rattle.gw_maplang.specs.Seen.{line, now, now_all, path, path_some, fie
 ghost use Rattle.gw_maplang.specs.Seen.{condition, condition_some, field_condition, field_condition_some, walk, walk_some};
 
 use crate::parts::{
-    constant, copies, drop_at, field_place_at, from_at, path_at, place_at, plain_word, ref_at,
-    some_texts, table_at, text_at, texts,
+    after_first_byte, before_first_byte, constant, copies, drop_at, field_place_at, from_at,
+    path_at, place_at, plain_word, ref_at, some_texts, table_at, text_at, texts,
 };
 use crate::rule::{
-    Alternative, BuildRule, Condition, CopyRule, Dropped, FieldCondition, FieldPath, FirstRule,
-    Leaf, LeafPlace, LeafRule, RepeatRule, Rule, Walk,
+    Alternative, BuildRule, Condition, CopyRule, DateDigits, Dropped, FieldCondition, FieldPath,
+    FirstRule, Leaf, LeafPlace, LeafRule, RepeatRule, Rule, Walk,
 };
 use gw_lines::{Word, behind, bytes_of, name_at, number, number_at};
 use std::alloc::{AllocError, Global};
@@ -229,17 +229,48 @@ fn date_length(bytes: &[u8]) -> Option<u32>
     }
 }
 
+fn date_most(least: u32, bytes: &[u8]) -> Option<DateDigits>
+    ensures { result ≡ spec.date_most least bytes.now }
+{
+    match bytes {
+        [] => None,
+        [byte, bytes @ ..] => {
+            let most = date_length(bytes)?;
+            if *byte == b'.' && least < most {
+                return Some(DateDigits { least, most });
+            }
+            None
+        }
+    }
+}
+
+fn date_behind(least: u32, bytes: Option<&[u8]>) -> Option<DateDigits>
+    ensures { result ≡ spec.date_behind least (now bytes.entry) }
+{
+    match bytes {
+        None => Some(DateDigits { least, most: least }),
+        Some(bytes) => date_most(least, bytes),
+    }
+}
+
+fn date_digits(bytes: &[u8]) -> Option<DateDigits>
+    ensures { result ≡ spec.date_digits bytes.now }
+{
+    let least = date_length(before_first_byte(b'.', bytes))?;
+    date_behind(least, after_first_byte(b'.', bytes))
+}
+
 // How many digits of a date.
-fn date_length_at<'a, 'w>(words: &'w [Word<'a>]) -> Option<(u32, &'w [Word<'a>])>
-    ensures { option_map (λ w. (w.0, map word w.1.now)) result ≡ spec.plain_at spec.date_length (map word words.now) }
+fn date_digits_at<'a, 'w>(words: &'w [Word<'a>]) -> Option<(DateDigits, &'w [Word<'a>])>
+    ensures { option_map (λ w. (w.0, map word w.1.now)) result ≡ spec.plain_at spec.date_digits (map word words.now) }
 {
     let (bytes, more) = plain_word(words)?;
-    let digits = date_length(bytes)?;
+    let digits = date_digits(bytes)?;
     Some((digits, more))
 }
 
-// What stands behind `date N`.
-fn date_from(alloc: Global, digits: u32, words: &[Word]) -> Result<Option<Leaf>, AllocError>
+// What stands behind `date N` or `date A..B`.
+fn date_from(alloc: Global, digits: DateDigits, words: &[Word]) -> Result<Option<Leaf>, AllocError>
     ensures { IfOk result (λ found. option_map leaf found ≡ spec.date_from digits (map word words.now)) }
 {
     let Some((from, more)) = ref_at(alloc, words)? else {
@@ -254,7 +285,7 @@ fn date_from(alloc: Global, digits: u32, words: &[Word]) -> Result<Option<Leaf>,
 fn date_form(alloc: Global, words: &[Word]) -> Result<Option<Leaf>, AllocError>
     ensures { IfOk result (λ found. option_map leaf found ≡ spec.date_form (map word words.now)) }
 {
-    match date_length_at(words) {
+    match date_digits_at(words) {
         None => Ok(None),
         Some((digits, more)) => date_from(alloc, digits, more),
     }

@@ -24,8 +24,8 @@ pub use itself::identity;
 pub use map::Map;
 pub use patterns::expected;
 pub use rule::{
-    Alternative, BuildRule, Condition, CopyRule, Dropped, FieldCondition, FieldPath, FirstRule,
-    Leaf, LeafPlace, LeafRule, Ref, RepeatRule, Rule, Walk,
+    Alternative, BuildRule, Condition, CopyRule, DateDigits, Dropped, FieldCondition, FieldPath,
+    FirstRule, Leaf, LeafPlace, LeafRule, Ref, RepeatRule, Rule, Walk,
 };
 pub use table::Table;
 pub use text::parse;

@@ -24,14 +24,21 @@ pub enum Ref {
     Current(LeafPlace),
 }
 
+/// How many digits of a date and time are taken: as many of 4, 6, 8, 10, 12 and 14 as are there, from the least to the most.
+#[derive(Clone, Copy, Drop)]
+pub struct DateDigits {
+    pub least: u32,
+    pub most: u32,
+}
+
 /// What makes one text of the target: a constant, a text of the source, a table's row for a text of the source,
-/// or the first digits of a date and time of the source, as many as said.
+/// or the first digits of a date and time of the source.
 #[derive(Drop)]
 pub enum Leaf {
     Const(Vec<u8>),
     Copy(Ref),
     Lookup(Vec<u8>, Ref),
-    Date(u32, Ref),
+    Date(DateDigits, Ref),
 }
 
 /// `or`: a leaf that stands for those above it of its place.

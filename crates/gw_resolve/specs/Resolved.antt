@@ -1,5 +1,6 @@
 -- A map whose labels were looked up: it names target nodes by their numbers, and source places by steps.
 use Rattle.std.specs.Prelude.{ℕ, ◌==◌, ◌&&◌, List, ◌∷◌, Option, Some, None, find}
+use Rattle.gw_maplang.specs.declared.rule.DateDigits.{DateDigits}
 use Rattle.gw_maplang.specs.Shapes.{Rows, Condition}
 use Rattle.gw_resolve.specs.Places.{Place}
 
@@ -18,7 +19,7 @@ pub data Leaf : Type 0 where
   const : (text : List ℕ) → Leaf
   copied : (source : Source) → Leaf
   looked_up : (table : Rows) (source : Source) → Leaf
-  dated : (digits : ℕ) (source : Source) → Leaf
+  dated : (digits : DateDigits) (source : Source) → Leaf
 
 -- a leaf of a place, and its line
 pub record Alternative : Type 0 where

@@ -1,6 +1,6 @@
 //! A map whose labels were looked up: target nodes by their numbers, source places by steps.
 
-use gw_maplang::{Condition, LeafPlace};
+use gw_maplang::{Condition, DateDigits, LeafPlace};
 
 /// One of the occurrences that are walked, counted outwards from the innermost, and from there the number of a child, step by step.
 #[derive(Drop)]
@@ -29,7 +29,7 @@ pub enum ResolvedLeaf {
     Const(Vec<u8>),
     Copied(Source),
     LookedUp(Vec<u8>, Source),
-    Dated(u32, Source),
+    Dated(DateDigits, Source),
 }
 
 /// `or`: a leaf that stands for those above it of its place.

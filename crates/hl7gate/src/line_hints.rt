@@ -207,7 +207,7 @@ fn are_dates(named: Named<'_>, digits: u32) -> bool {
     table.values().iter().all(|text| has_digits(text, digits))
 }
 
-/// Reports that the last leaf of a place may give no date.
+/// Reports that the last leaf of a place may give no date, and the line that takes a date with fewer digits too.
 fn print_date<E: Write>(path: &str, source: &Profile, last: Option<&Site>, errors: &mut E) {
     let Some(site) = last else {
         return;
@@ -216,13 +216,19 @@ fn print_date<E: Write>(path: &str, source: &Profile, last: Option<&Site>, error
         return;
     };
     let named = Named::whole(source, &from.at, from.field).part(from.comp, from.sub);
-    if !are_dates(named, *digits) {
-        let line = site.line;
-        let _ = writeln!(
-            errors,
-            "{path}:{line}: hint: gives nothing where {named} has fewer than {digits} digits"
-        );
+    if are_dates(named, digits.least) {
+        return;
     }
+    let line = site.line;
+    let least = digits.least;
+    let _ = write!(
+        errors,
+        "{path}:{line}: hint: gives nothing where {named} has fewer than {least} digits"
+    );
+    if least == digits.most && least > 4 {
+        let _ = write!(errors, ": date {}..{least}", least - 2);
+    }
+    say(errors, b"\n");
 }
 
 /// Reports what may not be meant by the leaves of a map: dates that nothing stands for, and constants that are never used.

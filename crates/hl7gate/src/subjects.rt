@@ -219,7 +219,8 @@ impl<'a, E: Write> Telling<'a, '_, E> {
                 "only some values of {asked} in {source} give it"
             );
         } else if let Origin::Dated(digits, _) = &site.origin {
-            let _ = write!(self.errors, "only a text with {digits} digits gives it");
+            let least = digits.least;
+            let _ = write!(self.errors, "only a text with {least} digits gives it");
         } else if let Some(path) = read_of(site)
             && let Some(at) = absent_on_the_way(from.profile, path)
         {
@@ -312,10 +313,11 @@ impl<'a, E: Write> Telling<'a, '_, E> {
         };
         match &site.origin {
             Origin::Dated(digits, _) => {
-                let _ = write!(
-                    self.errors,
-                    ", of which the map takes the first {digits} digits"
-                );
+                say(self.errors, b", of which the map takes the first ");
+                if digits.least < digits.most {
+                    let _ = write!(self.errors, "{} to ", digits.least);
+                }
+                let _ = write!(self.errors, "{} digits", digits.most);
             }
             Origin::LookedUp(name, _) => {
                 let _ = write!(self.errors, ", looked up in {}", name.escape_ascii());

@@ -60,8 +60,8 @@ source_failures s at rows from sub =
 
 -- of the first digits of a text
 abbrev pub dated_failures : profiles.Contents → FailureSite → Presence → ℕ → SubShape → List Failure
-dated_failures to at presence digits sub =
-    spec.value_failures (profile_value to) (mark at) (record { presence = presence; values = any Octets (Some digits) }) (sub_value sub)
+dated_failures to at presence most sub =
+    spec.value_failures (profile_value to) (mark at) (record { presence = presence; values = any Octets (Some most) }) (sub_value sub)
 
 -- of a leaf, also of a constant
 abbrev pub leaf_failures : Sources → FailureSite → ResolvedLeaf → SubShape → List Failure
