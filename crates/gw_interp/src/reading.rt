@@ -1,9 +1,8 @@
 //! Reads the texts at a map's sources.
-ghost use Rattle.std.specs.Prelude.{◌≡◌, ℕ, ◌<◌, ◌≤◌, List, Some, bytes_eq};
-ghost use Rattle.std.specs.List.{list_any};
+ghost use Rattle.std.specs.Prelude.{◌≡◌, ℕ, ◌<◌, ◌≤◌, List, Some};
 ghost use Rattle.gw_er7.specs.Message.{SegmentValue, text_of};
 ghost use Rattle.gw_er7.specs.Presence.{RepAt, IsLast};
-ghost use Rattle.gw_maplang.specs.Seen.{items_all, condition as seen_condition, condition_some};
+ghost use Rattle.gw_maplang.specs.Seen.{condition as seen_condition, condition_some};
 ghost use Rattle.gw_resolve.specs.Seen.{place as seen_place, source as seen_source, condition as field_condition, some_condition};
 ghost use Rattle.gw_interp.specs.Occurrences.{texts_at};
 ghost use Rattle.gw_interp.specs.own.Borrowed.{scope as walked, AreOf};
@@ -13,7 +12,7 @@ ghost use Rattle.gw_interp.specs.own.Sourced.{texts_of, IsFirstOne, IsFirstRep, 
 
 use crate::places::first_at_place;
 use gw_er7::Segment;
-use gw_maplang::{Condition, LeafPlace};
+use gw_maplang::{ChosenValues, Condition, LeafPlace};
 use gw_resolve::{FieldCondition, ScopePath, Source};
 use gw_validate::Occ;
 
@@ -86,30 +85,19 @@ fn text_at<'a>(segment: &Segment<'a>, field: usize, rep: usize, at: LeafPlace) -
     })
 }
 
-fn is_among(values: &[Vec<u8>], text: &[u8]) -> bool
-    ensures { result ≡ list_any (bytes_eq text.now) (items_all values.now) }
-{
-    for value in values {
-        if text == value.as_slice() {
-            return true;
-        }
-    }
-    false
-}
-
 // Whether the text is one of the values. An absent text is none of them.
-fn is_one(values: &[Vec<u8>], text: &[u8]) -> bool
-    ensures { result ≡ meaning.is_one (items_all values.now) text.now }
+fn is_one(values: &ChosenValues, text: &[u8]) -> bool
+    ensures { result ≡ meaning.is_one values.now text.now }
 {
     match text {
         [] => false,
-        [_, ..] => is_among(values, text),
+        [_, ..] => values.contains(text),
     }
 }
 
 // Whether a repetition meets the condition.
 fn meets(condition: &Condition, segment: &Segment<'_>, field: usize, rep: usize) -> bool
-    ensures { result ≡ meaning.is_one (items_all condition.now.values.items) (text_of segment.now.at field rep condition.now.place.comp condition.now.place.sub) }
+    ensures { result ≡ meaning.is_one condition.now.values (text_of segment.now.at field rep condition.now.place.comp condition.now.place.sub) }
 {
     is_one(
         &condition.values,

@@ -63,7 +63,7 @@ fn can_hold(sources: Sources<'_, '_, '_, '_, '_>, from: &Reference, condition: &
     let place = condition.place;
     let sub = sub_of(comp_of(at_field(sources, from), place.comp), place.sub);
     !is_absent(place_presence(sources, from, place))
-        && may_be_one(sources.context.source(), sub, &condition.values)
+        && may_be_one(sources.context.source(), sub, condition.values.values())
 }
 
 /// Adds the failure of a condition on what this field has, at this mark. The one error is allocation failure.

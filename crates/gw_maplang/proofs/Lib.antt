@@ -11,5 +11,6 @@ pub mod Columned
 pub mod Kept
 pub mod Formed
 pub mod Same
+pub mod Added
 pub mod Keywords
 pub mod Once

@@ -62,7 +62,7 @@ abbrev pub leaf_value : LeafRule → LeafValue
 leaf_value l = record { line = l.line; place = l.place; leaf = leaf l.leaf; others = map alternative l.others.items }
 
 abbrev pub condition : conditions.Condition → Condition
-condition c = record { place = c.place; values = path c.values }
+condition c = record { place = c.place; values = c.values }
 
 abbrev pub condition_some : Option conditions.Condition → Option Condition
 condition_some c = option_map condition c

@@ -6,9 +6,10 @@ ghost use Rattle.gw_lines.specs.Seen.{word};
 ghost use Rattle.gw_lines.specs.Parts.{with_all};
 ghost use Rattle.gw_lines.specs.Values.{bytes_of};
 ghost use Rattle.gw_maplang.specs.Line as spec;
-ghost use Rattle.gw_maplang.specs.Seen.{line, now, now_all, path, path_some, field_path, ref, leaf, alternative, leaf_value, dropped};
+ghost use Rattle.gw_maplang.specs.Seen.{line, now, now_all, path, field_path, ref, leaf, alternative, leaf_value, dropped};
 ghost use Rattle.gw_maplang.specs.Seen.{condition, condition_some, field_condition, field_condition_some, walk, walk_some};
 
+use crate::chosen::ChosenValues;
 use crate::parts::{
     after_first_byte, before_first_byte, constant, copies, drop_at, field_place_at, from_at,
     path_at, place_at, plain_word, ref_at, some_texts, table_at, text_at, texts,
@@ -82,15 +83,15 @@ fn where_at<'a, 'w>(words: &'w [Word<'a>]) -> Option<(LeafPlace, &'w [Word<'a>])
 }
 
 // The values that a condition asks for.
-fn values_form(alloc: Global, words: &[Word]) -> Result<Option<Vec<Vec<u8>>>, AllocError>
-    ensures { IfOk result (λ found. path_some found ≡ spec.values_form (map word words.now)) }
+fn values_form(alloc: Global, words: &[Word]) -> Result<Option<ChosenValues>, AllocError>
+    ensures { IfOk result (λ found. found ≡ spec.values_form (map word words.now)) }
 {
     let Some(more) = behind(b"is", words) else {
         return Ok(None);
     };
     match chosen_texts(alloc, more)? {
         None => Ok(None),
-        Some(values) => Ok(Some(copies(alloc, &values)?)),
+        Some(values) => Ok(Some(ChosenValues::of(alloc, copies(alloc, &values)?)?)),
     }
 }
 

@@ -2,6 +2,7 @@
 #![tactic(auto)]
 
 mod build;
+mod chosen;
 mod columns;
 mod context;
 mod fault;
@@ -17,6 +18,7 @@ mod table;
 mod text;
 mod whole;
 
+pub use chosen::ChosenValues;
 pub use fault::MapFault;
 pub use form::is_kept;
 pub use item::{AlwaysItem, FlatItem, FromItem, GroupItem, Item};

@@ -209,7 +209,7 @@ fn is_bad_condition(asked: Option<&Condition>) -> bool
 {
     match asked {
         None => false,
-        Some(condition) => !are_all_values(&condition.values),
+        Some(condition) => !are_all_values(condition.values.values()),
     }
 }
 

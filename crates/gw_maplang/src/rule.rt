@@ -2,6 +2,8 @@
 ghost use Rattle.std.specs.Prelude.{◌≡◌};
 ghost use Rattle.gw_maplang.specs.Seen.{condition_now, condition_some};
 
+use crate::chosen::ChosenValues;
+
 /// A field of the source, by the path of its segment; `takes_first` if that is the first of several that may be there.
 #[derive(Drop)]
 pub struct FieldPath {
@@ -61,7 +63,7 @@ pub struct LeafRule {
 #[derive(Drop)]
 pub struct Condition {
     pub place: LeafPlace,
-    pub values: Vec<Vec<u8>>,
+    pub values: ChosenValues,
 }
 
 /// Some occurrences of a segment or group: those where the first repetition of a field, read within each, meets the condition.

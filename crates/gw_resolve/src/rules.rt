@@ -13,7 +13,7 @@ use crate::led::{PathUse, lead};
 use crate::resolved::{
     Alternative, At, FieldCondition, Making, Reference, ResolvedLeaf, Rule, Source,
 };
-use gw_maplang::{Condition, FieldPath, Leaf, LeafRule, Ref};
+use gw_maplang::{ChosenValues, Condition, FieldPath, Leaf, LeafRule, Ref};
 use std::alloc::{AllocError, Global};
 
 fn reference(
@@ -121,16 +121,23 @@ fn leaves(
     Ok(built)
 }
 
+fn copied_values(alloc: Global, values: &[Vec<u8>]) -> Result<Vec<Vec<u8>>, AllocError>
+    ensures { IfOk result (λ v. raw.items_all v.items ≡ raw.items_all values.now) }
+{
+    let mut copies = Vec::new(alloc);
+    for text in values {
+        copies.push(Vec::from_slice(alloc, text)?)?;
+    }
+    Ok(copies)
+}
+
 fn condition_of(alloc: Global, said: &Condition) -> Result<Condition, AllocError>
     ensures { IfOk result (λ c. raw.condition c ≡ raw.condition said.now) }
 {
-    let mut values = Vec::new(alloc);
-    for text in &said.values {
-        values.push(Vec::from_slice(alloc, text)?)?;
-    }
+    let values = copied_values(alloc, said.values.values())?;
     Ok(Condition {
         place: said.place,
-        values,
+        values: ChosenValues::of(alloc, values)?,
     })
 }
 

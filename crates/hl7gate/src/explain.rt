@@ -81,7 +81,7 @@ fn write_chosen(
         {
             let line = site.line;
             write!(out, "{named}: only ")?;
-            write_values(out, &condition.values)?;
+            write_values(out, condition.values.values())?;
             writeln!(out, " (line {line})")?;
         }
     }

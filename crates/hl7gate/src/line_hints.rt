@@ -9,7 +9,6 @@ use gw_check::{CheckedMap, Origin, Site, field_at};
 use gw_maplang::Condition;
 use gw_profile::{Profile, Table, Usage};
 use std::alloc::{AllocError, Global};
-use std::collections::BTreeMap;
 use std::io::Write;
 
 /// How many values of a condition are named.
@@ -21,20 +20,16 @@ fn table_of<'a>(named: Named<'a>) -> Option<&'a Table> {
 }
 
 /// Whether a condition names each value that can stand at an element.
-fn names_all(alloc: Global, named: Named<'_>, condition: &Condition) -> Result<bool, AllocError> {
+fn names_all(named: Named<'_>, condition: &Condition) -> bool {
     let Some(table) = table_of(named) else {
-        return Ok(false);
+        return false;
     };
-    let mut chosen: BTreeMap<&[u8], u64> = BTreeMap::new(alloc);
-    for value in condition.values.as_slice() {
-        chosen.insert(value.as_slice(), 1)?;
-    }
     for value in table.values() {
-        if may_have(named, value) && chosen.get(value.as_slice()).is_none() {
-            return Ok(false);
+        if may_have(named, value) && !condition.values.contains(value) {
+            return false;
         }
     }
-    Ok(true)
+    true
 }
 
 /// Whether a part of a field is always there in a repetition that is present.
@@ -90,7 +85,7 @@ impl Asked<'_, '_> {
         let name = profile.name().escape_ascii();
         let named = self.named;
         let mut any = false;
-        for value in self.condition.values.as_slice() {
+        for value in self.condition.values.values() {
             if !may_have(named, value) {
                 any = true;
                 self.print_line(path, errors);
@@ -103,7 +98,7 @@ impl Asked<'_, '_> {
 
     /// Reports its values, or how many they are.
     fn print_values<E: Write>(&self, errors: &mut E) {
-        let values = self.condition.values.as_slice();
+        let values = self.condition.values.values();
         if values.len() > NAMED {
             say(errors, b"one of these");
             return;
@@ -143,13 +138,8 @@ impl Asked<'_, '_> {
     }
 
     /// Reports what may not be meant by its values, or by the repetition that it asks.
-    fn print_doubts<E: Write>(
-        &self,
-        alloc: Global,
-        path: &str,
-        errors: &mut E,
-    ) -> Result<(), AllocError> {
-        if !self.print_strange(path, errors) && names_all(alloc, self.named, self.condition)? {
+    fn print_doubts<E: Write>(&self, path: &str, errors: &mut E) {
+        if !self.print_strange(path, errors) && names_all(self.named, self.condition) {
             self.print_all(path, errors);
         }
         if self.is_of_item() && self.may_repeat() {
@@ -160,7 +150,6 @@ impl Asked<'_, '_> {
                 "{field} may repeat, and this asks its first repetition"
             );
         }
-        Ok(())
     }
 }
 
@@ -182,7 +171,7 @@ pub(crate) fn print_conditions<E: Write>(
                     named,
                     condition,
                 };
-                asked.print_doubts(alloc, written.path, errors)?;
+                asked.print_doubts(written.path, errors);
             }
         }
     }

@@ -18,13 +18,13 @@ returns-then-not-is_absent c =
     let from = reference c.args.from.now in
     let at = c.args.condition.now.place in
     let shape = source_shape s (of_field from at.comp at.sub) in
-    let texts = c.args.condition.now.values.items in
+    let texts = c.values.result.now in
     let sub = c.sub_of-sub.ensures ∙ ap (λ o. sub_of o at.sub) (c.comp_of.ensures ∙ ap (λ o. comp_of o at.comp) c.at_field.ensures) in
     let source = ap (λ p. sub_values (profile_value p) (some_sub c.sub_of-sub.result)) c.source.ensures in
-    let values = source ∙ ap (sub_values s.profile) sub in
+    let known = source ∙ ap (sub_values s.profile) sub in
     let absent = c.is_absent.ensures ∙ ap is_absent c.place_presence.ensures in
     c.may_be_one.ensures
-    ∙ ap (λ l. list_any (λ (v : Vec ℕ). may_be (sub_values (profile_value c.source.result.now) (some_sub c.sub_of-sub.result)) v.items) l) c.deref.ensures.value
-    ∙ ap (λ w. list_any (λ (v : Vec ℕ). may_be w v.items) texts) values
+    ∙ ap (λ w. list_any (λ (v : Vec ℕ). may_be w v.items) texts) known
     ∙ sym (any_map (λ (v : Vec ℕ). v.items) (may_be shape.values) texts)
+    ∙ ap (list_any (may_be shape.values)) c.values.ensures
     ∙ there_and (is_absent shape.presence) _ (sym absent ∙ c.if-not-is_absent.true)
