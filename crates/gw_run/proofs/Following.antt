@@ -20,7 +20,7 @@ use Rattle.gw_run.specs.declared.report.Kind.{Kind}
 use Rattle.gw_run.specs.declared.report.Kind.TheVariants.{Accepted, Any, Arrived}
 use Rattle.gw_run.specs.own.Joins.{PlansAt, notes_of}
 use Rattle.gw_run.specs.Settled.{GoOn, first_of, is_same, last_end, stands, AreSettled, Settled}
-use Rattle.gw_run.specs.Passes.{CountedSeen, PassSeen}
+use Rattle.gw_lock.specs.Passes.{CountedSeen, PassSeen}
 
 -- ---- one after another
 

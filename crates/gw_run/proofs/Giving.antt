@@ -15,7 +15,7 @@ use Rattle.gw_gate.specs.Journal.{EntrySeen, WasOut, Journal, Release, released}
 use Rattle.gw_gate.specs.Same.{same_entry}
 use Rattle.gw_gate.proofs.Journals.{released-append}
 use Rattle.gw_crew.specs.Notes.{NoteSeen, Added, ReceiptSeen}
-use Rattle.gw_run.specs.Passes.{receipts}
+use Rattle.gw_lock.specs.Passes.{receipts}
 use Rattle.gw_run.specs.Settled.{Settled, agrees, first_of, fits_between, having, is_same, last_end, next_at, stands}
 use Rattle.gw_run.proofs.Following.{ends_all}
 use Rattle.gw_run.specs.Given.{NoneGiven, are_same, entry_of, given_by, given_out, same_release}

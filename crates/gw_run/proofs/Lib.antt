@@ -1,5 +1,3 @@
-pub mod Crossing
-pub mod Counting
 pub mod Turning
 pub mod Fitting
 pub mod Marking

@@ -14,7 +14,7 @@ use Rattle.std.proofs.lemmas.List.Sums.{sum_by_push}
 use Rattle.gw_crew.specs.declared.note.Note.{Note}
 use Rattle.gw_crew.specs.Notes.{NoteSeen, Added, ReceiptSeen, receipt_of}
 use Rattle.gw_crew.specs.Seen.{note_seen, notes_seen}
-use Rattle.gw_run.specs.Passes.{PassSeen, receipts, part_count, receipt_count}
+use Rattle.gw_lock.specs.Passes.{PassSeen, receipts, part_count, receipt_count}
 use Rattle.gw_run.specs.Settled.{having}
 use Rattle.gw_run.specs.own.Joins.{Marks, notes_of}
 

@@ -4,7 +4,7 @@ use Rattle.std.specs.List.{AllByRecursion}
 use Rattle.gw_gate.specs.Parts.{same_translated}
 use Rattle.gw_gate.specs.Journal.{EntrySeen, Release, released}
 use Rattle.gw_crew.specs.Notes.{NoteSeen, ReceiptSeen}
-use Rattle.gw_run.specs.Passes.{receipts}
+use Rattle.gw_lock.specs.Passes.{receipts}
 
 abbrev pub entry_of : ReceiptSeen → EntrySeen
 entry_of receipt = receipt.entry

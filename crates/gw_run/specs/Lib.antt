@@ -1,4 +1,3 @@
-pub mod Passes
 pub mod Settled
 pub mod Given
 pub mod Rows

@@ -9,7 +9,7 @@ use Rattle.gw_gate.specs.Chapters.{all_entries}
 use Rattle.gw_gate.specs.Replies.{ReplySeen, IsIdle, IsNothing, Takes, Releases, reply_to, most}
 use Rattle.gw_gate.specs.Same.{same_entry}
 use Rattle.gw_crew.specs.Notes.{NoteSeen, Looked, WasStale, WasFull, WasIdle, WasNothing, Added, ReceiptSeen}
-use Rattle.gw_run.specs.Passes.{CountedSeen, PassSeen, receipts}
+use Rattle.gw_lock.specs.Passes.{CountedSeen, PassSeen, receipts}
 
 -- ---- a note by itself
 

@@ -2,13 +2,13 @@
 ghost use Rattle.std.specs.Prelude.{◌≡◌, ◌↔◌, IfOk, IsTrue, flat_map, length};
 ghost use Rattle.std.specs.List.{list_all};
 ghost use Rattle.gw_run.specs.own.Joins.{Marks, notes_of};
-ghost use Rattle.gw_run.specs.Passes.{receipts};
+ghost use Rattle.gw_lock.specs.Passes.{receipts};
 ghost use Rattle.gw_run.specs.Settled.{GoOn, Settled, agrees};
 
 use crate::note_check::agrees;
 use crate::parts::{Part, first_of, go_on, last_of};
-use crate::pass::Receipts;
 use crate::receipt_counts::{are_all_marked, mark_notes};
+use gw_lock::Receipts;
 use std::alloc::{AllocError, Global};
 use std::sync::ledger::Ledger;
 

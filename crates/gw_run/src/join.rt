@@ -2,16 +2,15 @@
 ghost use Rattle.std.specs.Prelude.{◌≡◌, ◌+◌, ◌++◌, ◌∷◌, ◌⊎◌, [], IfErr, IfOk};
 ghost use Rattle.gw_gate.specs.Chapters.{all_entries};
 ghost use Rattle.gw_stream.specs.declared.fault.RunFault.TheVariants as run;
-ghost use Rattle.gw_run.specs.Passes.{AreCounted, HaveAll, part_count, receipt_count};
+ghost use Rattle.gw_lock.specs.Passes.{AreCounted, HaveAll, part_count, receipt_count};
 ghost use Rattle.gw_run.specs.Report.{report_of};
 ghost use Rattle.gw_run.specs.Settled.{AreSettled};
 
 use crate::audit::is_settled;
-use crate::counted::Counted;
 use crate::parts::parts_of;
-use crate::pass::Receipts;
 use crate::report::Report;
 use gw_gate::Chapter;
+use gw_lock::{Counted, Receipts};
 use gw_stream::RunFault;
 use std::alloc::Global;
 use std::sync::ledger::{Ledger, Share};

@@ -10,7 +10,7 @@ ghost use Rattle.gw_crew.specs.Notes.{NoteSeen, WasFull};
 ghost use Rattle.gw_run.specs.Given.{NoneGiven, are_same, given_out};
 ghost use Rattle.gw_reorder.specs.State.{nothing_due};
 ghost use Rattle.gw_run.specs.Owing.{after_entry, gives_none};
-ghost use Rattle.gw_run.specs.Passes.{receipts};
+ghost use Rattle.gw_lock.specs.Passes.{receipts};
 ghost use Rattle.gw_run.specs.Settled.{GoOn, Settled, agrees, are_all, first_of};
 ghost use Rattle.gw_run.specs.Rows.{desk_by, owing, session, one_worker, other_worker, idle_worker, boasting_worker, lying_worker};
 ghost use Rattle.gw_run.specs.Rows.{first_chapter, open_chapter, long_session, long_worker, courier, counting_anew, denying};

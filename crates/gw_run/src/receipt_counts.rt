@@ -6,7 +6,7 @@ ghost use Rattle.std.specs.Option.{option_to_list};
 ghost use Rattle.gw_crew.specs.Notes.{receipt_of};
 ghost use Rattle.gw_crew.specs.Seen.{note_seen, notes_seen};
 ghost use Rattle.gw_run.specs.own.Joins.{MarksMore};
-ghost use Rattle.gw_run.specs.Passes.{receipts};
+ghost use Rattle.gw_lock.specs.Passes.{receipts};
 
 use gw_crew::Note;
 

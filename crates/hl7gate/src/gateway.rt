@@ -11,6 +11,7 @@ mod hub;
 mod install;
 mod late;
 mod links;
+mod load;
 mod lobby;
 mod numbers;
 mod outgoing;

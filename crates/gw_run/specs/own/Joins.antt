@@ -11,7 +11,7 @@ use Rattle.gw_gate.specs.Seen.{plan_seen}
 use Rattle.gw_gate.specs.Journal.{EntrySeen, Journal, WasSwapped, current, end, swapped}
 use Rattle.gw_gate.specs.Replies.{Takes, Releases, reply_to}
 use Rattle.gw_crew.specs.Notes.{NoteSeen, Added, Looked, ReceiptSeen, WasStale}
-use Rattle.gw_run.specs.Passes.{PassSeen}
+use Rattle.gw_lock.specs.Passes.{PassSeen}
 use Rattle.gw_run.specs.Settled.{GoOn, agrees, fits, fits_at, fits_between, having, is_idle, is_nothing, last_end, next_at}
 use Rattle.gw_run.specs.Turns.{IsFirstFrom, Passes, TurnsAt, is_within}
 use Rattle.gw_run.specs.own.Queues.{QueueSeen, queue_at}

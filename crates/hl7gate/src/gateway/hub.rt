@@ -1,6 +1,7 @@
 //! What all rounds of a gateway share.
 use crate::gateway::folder::Folder;
 use crate::gateway::install::Ready;
+use crate::gateway::load::Load;
 use crate::gateway::lobby::Lobby;
 use crate::gateway::outgoing::Outgoing;
 use crate::gateway::receivers::{Prepared, Receivers};
@@ -62,8 +63,8 @@ pub(crate) struct Hub<'f, R: Wait> {
     rounds: AtomicU64,
     version: AtomicU64,
     accepted: AtomicU64,
-    // those of the round
-    swaps: AtomicU64,
+    // of the round
+    pub(crate) load: Load,
     has_stopped: AtomicBool,
     fault: Mutex<Option<RunFault>>,
     swap: Mutex<Swap>,
@@ -128,7 +129,7 @@ impl<'f, R: Wait> Hub<'f, R> {
             rounds: AtomicU64::new(0),
             version: AtomicU64::new(0),
             accepted: AtomicU64::new(0),
-            swaps: AtomicU64::new(0),
+            load: Load::new(),
             has_stopped: AtomicBool::new(false),
             fault: Mutex::new(None),
             swap: Mutex::new(Swap::None),
@@ -137,6 +138,11 @@ impl<'f, R: Wait> Hub<'f, R> {
             is_installing: AtomicBool::new(false),
             helpers: AtomicU64::new(0),
         })
+    }
+
+    /// How many receivers there are: those of the plan, and those that are gone from it.
+    pub(crate) fn receivers(&self) -> u64 {
+        self.spools.len() as u64
     }
 
     /// The receiver of this number in the plan.
@@ -167,7 +173,7 @@ impl<'f, R: Wait> Hub<'f, R> {
     /// A round begins, at a journal of as many entries. It takes messages, unless the gateway ends.
     pub(crate) fn begin_round(&self, entries: u64) {
         self.entries.store(entries, Ordering::SeqCst);
-        self.swaps.store(0, Ordering::SeqCst);
+        self.load.begin();
         self.rounds.fetch_add(1, Ordering::SeqCst);
         let fault = self.fault.lock(self.rt);
         if fault.is_none() && !self.has_stopped.load(Ordering::SeqCst) {
@@ -239,11 +245,6 @@ impl<'f, R: Wait> Hub<'f, R> {
     /// A message was accepted.
     pub(crate) fn count_accepted(&self) {
         self.accepted.fetch_add(1, Ordering::SeqCst);
-    }
-
-    /// How many plans were swapped in this round.
-    pub(crate) fn swaps(&self) -> u64 {
-        self.swaps.load(Ordering::SeqCst)
     }
 
     /// What it counts since its start.
@@ -370,7 +371,7 @@ impl<R: Wait + Clock + AllocGlobal> Hub<'_, R> {
     pub(crate) fn end_swap(&self, version: Option<u64>, answer: String) {
         if let Some(version) = version {
             self.version.store(version, Ordering::SeqCst);
-            self.swaps.fetch_add(1, Ordering::SeqCst);
+            self.load.count_swap();
         }
         *self.swap.lock(self.rt) = Swap::Done(answer);
         self.swapped.notify_all();

@@ -9,7 +9,7 @@ use gw_run::Clock as Stamps;
 use gw_stream::{Counts, RunFault};
 use memchr::memchr;
 use std::alloc::{AllocError, Global};
-use std::io::{ErrorKind, Read, Write};
+use std::io::{Eprint, ErrorKind, Read, Write};
 use std::net::{Shutdown, TcpStream};
 use std::sync::Wait;
 use std::time::{Clock, Duration, Instant};
@@ -89,7 +89,7 @@ fn read_rest<R: Wait + Clock>(hub: &Hub<'_, R>, stream: &TcpStream) {
 }
 
 /// Answers the message that begins in these bytes AR under this number, if its header came. Nothing is sent to this sender any more.
-pub(crate) fn reject<R: Wait + Clock + AllocGlobal>(
+pub(crate) fn reject<R: Wait + Clock + Eprint + AllocGlobal>(
     hub: &Hub<'_, R>,
     stream: &TcpStream,
     session: u64,

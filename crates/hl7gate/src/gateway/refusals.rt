@@ -6,10 +6,18 @@ use gw_mllp::Decoder;
 use memchr::memmem::find;
 use std::alloc::{AllocError, Global};
 use std::io;
-use std::io::Write;
+use std::io::{Eprint, Error, ErrorKind, Write};
 use std::net::TcpStream;
 use std::os::unix::fs::FileExt;
 use std::sync::Wait;
+
+/// How many milliseconds one write waits for its sender.
+pub(crate) const TURN: u64 = 200;
+
+/// How many times an answer is waited for: a minute. Once the round is over, all answers of a session are: a second.
+const TURNS: u64 = 300;
+
+const LAST_TURNS: u64 = 5;
 
 /// A sender's connection as its answers are written, with the log.
 #[derive(Drop)]
@@ -19,6 +27,8 @@ pub(crate) struct Logged<'a, 'f, R: Wait> {
     stream: &'a TcpStream,
     session: u64,
     answers: Decoder,
+    // how many times an answer was waited for since the round was over
+    late: u64,
 }
 
 impl<'a, 'f, R: Wait> Logged<'a, 'f, R> {
@@ -34,6 +44,7 @@ impl<'a, 'f, R: Wait> Logged<'a, 'f, R> {
             stream,
             session,
             answers: Decoder::new(alloc),
+            late: 0,
         }
     }
 
@@ -66,10 +77,33 @@ impl<'a, 'f, R: Wait> Logged<'a, 'f, R> {
     }
 }
 
-impl<R: Wait> Write for Logged<'_, '_, R> {
-    fn write(&mut self, buf: &[u8]) -> io::Result<usize> {
+impl<R: Wait + Eprint> Logged<'_, '_, R> {
+    // Writes as much as the sender takes in time. The next round waits for the end of this one, so then it has less time.
+    fn send(&mut self, buf: &[u8]) -> io::Result<usize> {
         let mut stream = self.stream;
-        let count = stream.write(buf)?;
+        for _turn in 0..TURNS {
+            match stream.write(buf) {
+                Err(error) if error.kind() == ErrorKind::WouldBlock => {}
+                written => return written,
+            }
+            if self.hub.is_over() {
+                self.late = self.late.saturating_add(1);
+            }
+            if self.late >= LAST_TURNS {
+                break;
+            }
+        }
+        let session = self.session;
+        let _ = eprintln!(self.hub.rt;
+            "session {session}: its sender didn't take an answer in time"
+        );
+        Err(Error::from(ErrorKind::TimedOut))
+    }
+}
+
+impl<R: Wait + Eprint> Write for Logged<'_, '_, R> {
+    fn write(&mut self, buf: &[u8]) -> io::Result<usize> {
+        let count = self.send(buf)?.min(buf.len());
         self.take(&buf[..count]);
         Ok(count)
     }

@@ -25,12 +25,6 @@ use std::thread;
 use std::thread::Threads;
 use std::time::{Clock, Duration, Instant};
 
-/// After how many entries of the journal a round ends.
-const LONG: u64 = 50_000;
-
-/// After how many swaps it does: the journal keeps each plan.
-const MANY: u64 = 20;
-
 /// How many milliseconds before its end a round's sessions wait for their senders by short reads: longer than a long read takes.
 const NOTICE: u64 = 300;
 
@@ -94,9 +88,13 @@ fn work<L: Ledger, R: Wait + Clock + Eprint + AllocGlobal>(
         return;
     };
     let worked = work_at(service, &mut door, number);
+    let met_full = door.met_full();
     service.hand_in(door);
-    if let Err(fault) = worked {
-        hub.fail(fault);
+    match worked {
+        Err(fault) => hub.fail(fault),
+        // (its journal has no room for what was accepted)
+        Ok(()) if met_full => hub.fail(RunFault::Memory),
+        Ok(()) => {}
     }
 }
 
@@ -105,7 +103,6 @@ fn take_senders<
     L: Ledger + Send,
     R: Threads + Wait + Clock + Files<File = File> + Eprint + AllocGlobal + Sync,
 >(service: &Service<'_, L, R>, hub: &Hub<'_, R>) {
-    let begun = hub.entries();
     thread::scope(
         thread::scope_env(),
         hub.rt,
@@ -126,7 +123,7 @@ fn take_senders<
                     return;
                 }
                 swap_asked(service, hub);
-                notice = look(hub, begun, notice);
+                notice = look(hub, notice);
             }
         },
     );
@@ -170,9 +167,9 @@ fn swap_asked<L: Ledger, R: Wait + Clock + Files<File = File> + Eprint + AllocGl
     hub.end_swap(swapped.ok(), answer);
 }
 
-/// Ends the round after notice, where its journal is long, or where a plan is to be installed and nothing works beside the round any more.
-fn look<R: Wait + Clock>(hub: &Hub<'_, R>, begun: u64, notice: Option<Instant>) -> Option<Instant> {
-    let is_long = hub.entries().saturating_sub(begun) >= LONG || hub.swaps() >= MANY;
+/// Ends the round after notice, where it is long, or where a plan is to be installed and nothing works beside the round any more.
+fn look<R: Wait + Clock>(hub: &Hub<'_, R>, notice: Option<Instant>) -> Option<Instant> {
+    let is_long = hub.load.is_long();
     match notice {
         None if is_long || hub.is_installing() => {
             hub.end_soon();

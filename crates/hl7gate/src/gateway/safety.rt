@@ -102,13 +102,16 @@ impl Needs {
         }
     }
 
-    /// The message that arrived was accepted under this number.
-    pub(crate) fn accepted(&self, n: u64) {
+    /// The message that arrived was accepted under this number. Says how many receivers it has.
+    pub(crate) fn accepted(&self, n: u64) -> u64 {
+        let mut receivers = 0u64;
         for (below, asked) in self.below.iter().zip(&self.asked) {
             if asked.get() {
                 below.set(n.saturating_add(1));
+                receivers = receivers.saturating_add(1);
             }
         }
+        receivers
     }
 
     fn are_met(&self, synced: &[u64]) -> bool {

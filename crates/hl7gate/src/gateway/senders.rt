@@ -6,7 +6,7 @@ use crate::gateway::hub::{Hub, Sender};
 use crate::gateway::links::watch;
 use crate::gateway::lobby::Lobby;
 use crate::gateway::overlong::{is_overlong, reject};
-use crate::gateway::refusals::Logged;
+use crate::gateway::refusals::{Logged, TURN};
 use crate::gateway::safety::{Needs, Waiting};
 use crate::gateway::whole::{End, Held, Whole};
 use crate::stamps::Utc;
@@ -28,9 +28,6 @@ use std::time::{Clock, Duration};
 
 /// How many milliseconds nothing is accepted behind a connection that can't be taken: no descriptor may be free.
 const PAUSE: u64 = 100;
-
-/// How many seconds an answer may take to be written.
-const WRITE: u64 = 60;
 
 /// Application internal error (HL7 table 0357).
 const INTERNAL: u16 = 207;
@@ -71,11 +68,15 @@ impl<L: Ledger, R: Wait + Eprint> Door for Gatekeeper<'_, '_, '_, L, R> {
         let answer = self.reporter.call(event);
         match &answer {
             Ok(Reply::Accepted { n, .. }) => {
-                self.needs.accepted(*n);
+                let to = self.needs.accepted(*n);
+                self.hub.load.settle(self.hub.receivers(), to);
                 self.hub.count_accepted();
                 self.count();
             }
-            Ok(Reply::Refused { .. }) => self.count(),
+            Ok(Reply::Refused { .. }) => {
+                self.hub.load.settle(self.hub.receivers(), 0);
+                self.count();
+            }
             _ => {}
         }
         answer
@@ -132,6 +133,7 @@ fn answer_at_gate<L: Ledger, R: Wait + AllocGlobal + Clock + Eprint>(
     sender: &mut Sender,
 ) -> Result<End, RunFault> {
     let alloc = hub.rt.alloc();
+    hub.load.count_session();
     let needs = Needs::new(alloc, hub.spools.len())?;
     let held = sender.take_held(alloc);
     let mut whole = Whole::new(alloc, hub, &sender.stream, held, false)?;
@@ -166,7 +168,7 @@ fn answer_at_gate<L: Ledger, R: Wait + AllocGlobal + Clock + Eprint>(
 }
 
 /// Turns the messages of a connection away, while the disk is short of room.
-fn turn_away<R: Wait + AllocGlobal + Clock>(
+fn turn_away<R: Wait + AllocGlobal + Clock + Eprint>(
     hub: &Hub<'_, R>,
     sender: &mut Sender,
 ) -> Result<End, RunFault> {
@@ -232,7 +234,7 @@ pub(crate) fn attend<L: Ledger, R: Wait + AllocGlobal + Clock + Eprint>(
 /// The sender at a connection that was taken.
 fn sender_at(alloc: Global, number: u64, stream: TcpStream) -> Sender {
     let _ = stream.set_nodelay(true);
-    let _ = stream.set_write_timeout(Some(Duration::from_secs(WRITE)));
+    let _ = stream.set_write_timeout(Some(Duration::from_millis(TURN)));
     watch(&stream);
     Sender {
         number,

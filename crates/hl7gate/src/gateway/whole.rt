@@ -4,7 +4,7 @@
 ghost use Rattle.std.specs.Prelude.{◌≤◌, length};
 
 use crate::gateway::hub::Hub;
-use memchr::{memchr, memrchr_iter};
+use memchr::{memchr, memchr_iter, memrchr_iter};
 use std::alloc::{AllocError, Global};
 use std::io;
 use std::io::{Error, ErrorKind, Read};
@@ -41,6 +41,8 @@ pub(crate) struct Held {
     given: usize,
     // up to here they end with a message, or may not be held back
     ready: usize,
+    // up to here the messages were let in
+    let_in: usize,
 }
 
 impl Held {
@@ -51,6 +53,7 @@ impl Held {
             bytes: Vec::new(alloc),
             given: 0,
             ready: 0,
+            let_in: 0,
         }
     }
 
@@ -70,7 +73,26 @@ impl Held {
             self.bytes.drain(..self.given.min(self.bytes.len()));
             self.given = 0;
             self.ready = 0;
+            self.let_in = 0;
         }
+    }
+
+    // Lets in what is ready, message by message, until as many bytes can be given. False: none can be, since the round takes no message more.
+    fn let_in<R: Wait>(&mut self, hub: &Hub<'_, R>, room: usize) -> bool {
+        self.let_in = self.let_in.max(self.given);
+        for _ in 0..PIECE {
+            let ahead = self.let_in.saturating_sub(self.given);
+            if self.let_in >= self.ready || ahead >= room {
+                return true;
+            }
+            let rest = self.bytes.get(self.let_in..self.ready).unwrap_or(&[]);
+            let end = first_end(rest);
+            if hub.is_over() || !hub.load.let_in(end, hub.receivers()) {
+                return ahead > 0;
+            }
+            self.let_in = self.let_in.saturating_add(end);
+        }
+        true
     }
 
     // Takes the first bytes of a piece, this many, and finds the last end of a message in them.
@@ -92,12 +114,25 @@ impl Held {
     fn give(&mut self, buf: &mut [u8]) -> usize
         ensures { result ≤ length buf.old }
     {
-        let ready = self.bytes.get(self.given..self.ready).unwrap_or(&[]);
+        let end = self.ready.min(self.let_in);
+        let ready = self.bytes.get(self.given..end).unwrap_or(&[]);
         let count = ready.len().min(buf.len());
         buf[..count].copy_from_slice(&ready[..count]);
         self.given = self.given.saturating_add(count);
         count
     }
+}
+
+/// Behind the end of the first message in these bytes, where there is one; else behind them all.
+fn first_end(bytes: &[u8]) -> usize {
+    let begin = memchr(VT, bytes).unwrap_or(0);
+    for at in memchr_iter(FS, bytes.get(begin..).unwrap_or(&[])) {
+        let behind = begin.saturating_add(at).saturating_add(1);
+        if bytes.get(behind) == Some(&CR) {
+            return behind.saturating_add(1);
+        }
+    }
+    bytes.len()
 }
 
 /// Behind the last end of a message in these bytes: FS, CR.
@@ -215,9 +250,21 @@ impl<'a, 'f, R: Wait> Whole<'a, 'f, R> {
 impl<R: Wait> Read for Whole<'_, '_, R> {
     fn read(&mut self, buf: &mut [u8]) -> io::Result<usize> {
         for _ in 0..u64::MAX {
+            let has_room = if self.is_short {
+                self.held.let_in = self.held.ready;
+                true
+            } else {
+                self.held.let_in(self.hub, buf.len())
+            };
             let count = self.held.give(buf);
             if count > 0 {
                 return Ok(count);
+            }
+            if !has_room {
+                // (the next round takes it)
+                self.hub.end_round();
+                self.end = End::Paused;
+                return Ok(0);
             }
             self.held.forget();
             if self.hub.is_over() || self.hub.is_short() != self.is_short {
@@ -227,6 +274,7 @@ impl<R: Wait> Read for Whole<'_, '_, R> {
             if !self.fill()? {
                 // (what was held back is the beginning of a message, which the session reports)
                 self.held.ready = self.held.bytes.len();
+                self.held.let_in = self.held.ready;
                 return Ok(self.held.give(buf));
             }
         }

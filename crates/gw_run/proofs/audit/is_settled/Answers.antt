@@ -4,7 +4,7 @@ use Rattle.std.specs.List.{list_all, range_with_len}
 use Rattle.std.proofs.lemmas.Bool.{false≢true, le-leb, lt-leb}
 use Rattle.gw_crew.specs.Notes.{ReceiptSeen}
 use Rattle.gw_run.specs.own.Joins.{Marks, notes_of}
-use Rattle.gw_run.specs.Passes.{receipts}
+use Rattle.gw_lock.specs.Passes.{receipts}
 use Rattle.gw_run.specs.Settled.{are_all, having}
 use Rattle.gw_run.proofs.Following.{denies}
 use Rattle.gw_run.proofs.Marking.{marked}

@@ -1,7 +1,7 @@
 use Rattle.std.proofs.Common.{◌≡◌, length, take}
 use Rattle.std.specs.Prelude.{flat_map}
 use Rattle.gw_run.specs.own.Joins.{Marks, notes_of}
-use Rattle.gw_run.specs.Passes.{receipts}
+use Rattle.gw_lock.specs.Passes.{receipts}
 use Rattle.gw_run.proofs.audit.marks_of.Given as goal
 
 abbrev pub invariant-loop-pass : goal.invariant-loop-pass

@@ -1,7 +1,7 @@
 use Rattle.std.proofs.Common.{◌≡◌, IfErr, List, subst}
 use Rattle.gw_gate.specs.Journal.{Journal}
 use Rattle.gw_stream.specs.declared.fault.RunFault.TheVariants as run
-use Rattle.gw_run.specs.Passes.{PassSeen}
+use Rattle.gw_lock.specs.Passes.{PassSeen}
 use Rattle.gw_run.specs.Settled.{AreSettled}
 use Rattle.gw_run.proofs.join.join_all.Goals as goal
 

@@ -1,5 +1,5 @@
 use Rattle.std.proofs.Common.{◌≡◌, ◌+◌}
-use Rattle.gw_run.specs.Passes.{part_count, receipt_count}
+use Rattle.gw_lock.specs.Passes.{part_count, receipt_count}
 use Rattle.gw_run.proofs.join.merged.Given as goal
 
 abbrev pub invariant-loop-pass : goal.invariant-loop-pass

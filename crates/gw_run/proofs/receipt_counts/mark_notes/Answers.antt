@@ -3,7 +3,7 @@ use Rattle.std.specs.Option.{option_to_list}
 use Rattle.gw_crew.specs.Notes.{receipt_of}
 use Rattle.gw_crew.specs.Seen.{note_seen, notes_seen}
 use Rattle.gw_run.specs.own.Joins.{Marks}
-use Rattle.gw_run.specs.Passes.{receipts}
+use Rattle.gw_lock.specs.Passes.{receipts}
 use Rattle.std.proofs.lemmas.List.{take_all}
 use Rattle.gw_run.proofs.Marking.{receipts_next}
 use Rattle.gw_run.proofs.receipt_counts.mark_notes.Goals as goal

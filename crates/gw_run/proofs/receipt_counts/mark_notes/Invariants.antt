@@ -2,7 +2,7 @@ use Rattle.std.proofs.Common.{◌≡◌, ◌++◌, List, length, take}
 use Rattle.gw_crew.specs.Notes.{ReceiptSeen}
 use Rattle.gw_crew.specs.Seen.{notes_seen}
 use Rattle.gw_run.specs.own.Joins.{Marks}
-use Rattle.gw_run.specs.Passes.{receipts}
+use Rattle.gw_lock.specs.Passes.{receipts}
 use Rattle.gw_run.proofs.receipt_counts.mark_notes.Given as goal
 
 abbrev pub invariant-loop-note : goal.invariant-loop-note

@@ -11,9 +11,9 @@ use Rattle.gw_gate.proofs.Crossing.{Entry-send, Gate-send}
 use Rattle.gw_crew.proofs.door.Phase.TheSendSync as phase
 use Rattle.gw_crew.specs.contracts.note.Receipt as Receipt
 use Rattle.gw_crew.specs.contracts.note.Note as Note
-use Rattle.gw_run.specs.contracts.locked.Locked as Locked
-use Rattle.gw_run.specs.contracts.locked.LockedGate as LockedGate
-use Rattle.gw_run.specs.contracts.pass.Receipts as Receipts
+use Rattle.gw_lock.specs.contracts.locked.Locked as Locked
+use Rattle.gw_lock.specs.contracts.locked.LockedGate as LockedGate
+use Rattle.gw_lock.specs.contracts.pass.Receipts as Receipts
 
 Locked-send : (L : RattleType) (g : ledger.Ghosts L.Denot) → IsSend (Locked.the_field L g).row
 Locked-send L g = search (Gate-send, book.the_send, phase.the_field_send, crosses, sendable) depth 60 fits 50000

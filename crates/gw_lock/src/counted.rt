@@ -2,9 +2,9 @@
 ghost use Rattle.std.specs.Prelude.{◌≡◌, ◌+◌, ◌<◌};
 ghost use Rattle.std.specs.Option.{option_map};
 ghost use Rattle.gw_crew.specs.Seen.{note_seen};
-ghost use Rattle.gw_run.specs.own.Steps.{added_by, counted_by};
+ghost use Rattle.gw_lock.specs.own.Steps.{added_by, counted_by};
 ghost use Rattle.gw_gate.specs.Journal.{end};
-ghost use Rattle.gw_run.specs.Passes.{CountedSeen};
+ghost use Rattle.gw_lock.specs.Passes.{CountedSeen};
 ghost use Rattle.gw_gate.specs.Headline.{IsTranslated};
 ghost use Rattle.gw_gate.specs.Lawful.{IsLawful};
 ghost use Rattle.gw_gate.specs.Meaning.{Makes};
@@ -90,8 +90,8 @@ impl<L: Ledger> Counted<L> {
         gate
     }
 
-    // Where the share has every part of the ledger, it counts each entry that was added.
-    pub(crate) fn audit(&mut self, share: &mut Share<L>)
+    /// Where the share has every part of the ledger, it counts each entry that was added. It takes no memory.
+    pub fn audit(&mut self, share: &mut Share<L>)
         ensures same { self.new ≡ self.old }
         ensures whole { share.old.parts ≡ L.parts → self.old.since + share.old.amount ≡ end self.old.gate }
     {

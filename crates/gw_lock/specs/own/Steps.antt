@@ -11,7 +11,7 @@ use Rattle.gw_gate.specs.declared.event.Reply.{Reply}
 use Rattle.gw_crew.specs.declared.note.Note.{Note}
 use Rattle.gw_crew.specs.Notes.{NoteSeen}
 use Rattle.gw_crew.specs.Solos.{StepsOnce, note_in}
-use Rattle.gw_run.specs.Passes.{receipts}
+use Rattle.gw_lock.specs.Passes.{receipts}
 
 -- how many entries a step added, by its note
 abbrev pub added_by : Option NoteSeen → ℕ

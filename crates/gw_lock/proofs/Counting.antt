@@ -15,8 +15,8 @@ use Rattle.gw_gate.specs.declared.event.Reply.{Reply}
 use Rattle.gw_crew.specs.declared.note.Note.{Note}
 use Rattle.gw_crew.specs.Notes.{NoteSeen, Answers, asked_for, plain_by, note_or, receipt_of}
 use Rattle.gw_crew.specs.Solos.{StepsOnce, Stepped, reply_in}
-use Rattle.gw_run.specs.Passes.{IsReplyTo, receipts}
-use Rattle.gw_run.specs.own.Steps.{StepsSomewhere, added_by, counted_by}
+use Rattle.gw_lock.specs.Passes.{IsReplyTo, receipts}
+use Rattle.gw_lock.specs.own.Steps.{StepsSomewhere, added_by, counted_by}
 use Rattle.gw_gate.proofs.Releasing.{some_is}
 
 plain_adds_none : (r : ℕ) (given : ReplySeen) → added_by (plain_by r given) ≡ 0

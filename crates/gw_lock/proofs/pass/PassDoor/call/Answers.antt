@@ -1,9 +1,9 @@
 use Rattle.std.proofs.Common.{rules, ◌∙◌, refl, ap}
 use Rattle.gw_crew.specs.Seen.{notes_seen}
 use Rattle.gw_crew.proofs.Soloing.{kept, not_cut}
-use Rattle.gw_run.specs.Passes.{PassSeen}
-use Rattle.gw_run.proofs.Counting.{counts_on, replies}
-use Rattle.gw_run.proofs.pass.PassDoor.call.Goals as goal
+use Rattle.gw_lock.specs.Passes.{PassSeen}
+use Rattle.gw_lock.proofs.Counting.{counts_on, replies}
+use Rattle.gw_lock.proofs.pass.PassDoor.call.Goals as goal
 
 pub keep-requires : goal.keep-requires
 keep-requires g c = λ some. c.room_for.ensures.room c.if-not-room_for.false (not_cut _ _ _ _ c.step-answer.ensures.step.step some)

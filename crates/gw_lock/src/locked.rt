@@ -29,7 +29,7 @@ pub struct LockedGate<L: Ledger> {
 impl<L: Ledger> LockedGate<L> {
     ghost use Rattle.std.specs.Prelude.{◌≡◌, ◌<◌, ◌+◌, []};
     ghost use Rattle.gw_gate.specs.Values.{event_seen};
-    ghost use Rattle.gw_run.specs.own.Steps.{StepsSomewhere, counted_by};
+    ghost use Rattle.gw_lock.specs.own.Steps.{StepsSomewhere, counted_by};
 
     /// The gate behind a lock, with a ledger's book of the entries that are added from here on. It takes no memory.
     pub fn new(gate: Gate, book: Book<L>) -> Self

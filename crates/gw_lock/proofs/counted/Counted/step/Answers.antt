@@ -3,8 +3,8 @@ use Rattle.std.specs.Option.{option_map}
 use Rattle.gw_gate.specs.Values.{event_seen, reply_seen}
 use Rattle.gw_crew.specs.Seen.{note_seen}
 use Rattle.gw_crew.specs.Solos.{Stepped}
-use Rattle.gw_run.specs.Passes.{CountedSeen}
-use Rattle.gw_run.proofs.counted.Counted.step.Goals as goal
+use Rattle.gw_lock.specs.Passes.{CountedSeen}
+use Rattle.gw_lock.proofs.counted.Counted.step.Goals as goal
 
 pub returns-clause-step : goal.returns-clause-step
 returns-clause-step g c =

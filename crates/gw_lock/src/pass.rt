@@ -1,6 +1,6 @@
 //! A thread's handle of a locked gate, and what it leaves.
 ghost use Rattle.std.specs.Prelude.{◌≡◌, ◌<◌, [], length, IfOk};
-ghost use Rattle.gw_run.specs.Passes.{IsCounted, PassSeen, MayCount, receipts, IsReplyTo};
+ghost use Rattle.gw_lock.specs.Passes.{IsCounted, PassSeen, MayCount, receipts, IsReplyTo};
 ghost use Rattle.gw_crew.specs.Seen.{notes_seen};
 ghost use Rattle.gw_gate.specs.Values.{event_seen, reply_seen, answer_seen};
 ghost use Rattle.gw_crew.specs.Notes.{Calls};
@@ -56,8 +56,8 @@ impl<L: Ledger> Receipts<L> {
         self.notes.as_slice()
     }
 
-    // The share alone.
-    pub(crate) fn into_share(self) -> Share<L>
+    /// The share, without the notes. It takes no memory.
+    pub fn into_share(self) -> Share<L>
         ensures parts { result.parts ≡ self.parts }
         ensures amount { result.amount ≡ length (receipts self.notes) }
     {
