@@ -3,45 +3,32 @@
 //! `program::command` does it over any reader and two writers, but for `serve`, `gateway` and `tell`, which also take the network or threads; here are the process's own.
 #![tactic(auto)]
 
-mod above;
-mod advice;
 mod arguments;
 mod breaches;
-mod chosen;
 mod contents;
 mod doors;
-mod elements;
 mod ended;
-mod expected;
 mod explain;
 mod files;
 mod gateway;
 mod hands;
 mod heap;
 mod heard;
-mod hints;
 mod identity;
-mod line_hints;
 mod maps;
 mod outcome;
-mod places;
 mod plans;
 mod program;
 mod progress;
 mod refusals;
 mod report;
-mod runnable;
 mod sample;
 mod serve;
-mod skeleton;
 mod stamps;
 mod streams;
-mod subjects;
 mod swaps;
 mod threads;
 mod tickets;
-mod unreached;
-mod witnesses;
 
 use arguments::{parse, process_words};
 use clap::ArgMatches;

@@ -3,22 +3,20 @@ ghost use Rattle.std.specs.Prelude.{◌≡◌, IfOk};
 ghost use Rattle.std.specs.Arc.{arc_value};
 ghost use Rattle.gw_profile.specs.Seen.{profile_value};
 
-use crate::advice::{Refusal, Refused, Written};
 use crate::ended::Ended;
-use crate::expected::{in_map, in_profile};
 use crate::files::{read_all, read_text};
-use crate::hints::print_hints;
-use crate::refusals::refused;
 use crate::report::{DONE, REFUSED, write_all};
 use clap::ArgMatches;
 use gw_check::CheckedMap;
+use gw_diagnostics::{
+    Judged, ProfilePair, Refusal, Written, judge, print_hints, refused_map, refused_profile,
+};
 use gw_er7::Message;
 use gw_maplang::Map;
 use gw_profile::Profile;
-use gw_resolve::Failure;
 use gw_stream::RunFault;
 use gw_validate::{Tree, Verdict};
-use std::alloc::{AllocError, Global};
+use std::alloc::Global;
 use std::io::{BufWriter, Read, Write};
 use std::rt::Files;
 use std::sync::Arc;
@@ -32,8 +30,8 @@ pub(crate) fn parse_profile<'a>(
     match gw_profile::parse(alloc, text) {
         Ok(profile) => Ok(Arc::new(alloc, profile)?),
         Err(fault) => {
-            let detail = in_profile(alloc, text, fault)?;
-            Err(refused(alloc, "profile", path, fault.number(), &fault, detail)?)
+            let said = refused_profile(alloc, path, text, fault)?;
+            Err(Ended::Refused { said })
         }
     }
 }
@@ -47,29 +45,6 @@ pub(crate) fn read_profile<'a, R: Files + AllocGlobal>(
     let path = words.get_str(word).unwrap_or("");
     let text = read_text(rt, path)?;
     parse_profile(rt.alloc(), path, &text)
-}
-
-/// The profiles between which a map goes.
-#[derive(Drop)]
-pub(crate) struct ProfilePair {
-    pub(crate) source: Arc<Profile>,
-    pub(crate) target: Arc<Profile>,
-}
-
-impl ProfilePair {
-    // The same profiles, shared once more.
-    fn shared(&self) -> Result<ProfilePair, AllocError> {
-        let source = self.source.clone()?;
-        let target = self.target.clone()?;
-        Ok(ProfilePair { source, target })
-    }
-}
-
-/// What the rules say of a map.
-#[derive(Drop)]
-pub(crate) enum Judged {
-    Allowed(CheckedMap),
-    Refused(Refused),
 }
 
 /// The profiles of the files SOURCE and TARGET, in this order.
@@ -102,59 +77,21 @@ pub(crate) fn parse_map<'a>(alloc: Global, written: &Written<'a>) -> Result<Map,
     match gw_maplang::parse(alloc, &written.text) {
         Ok(map) => Ok(map),
         Err(fault) => {
-            let detail = in_map(alloc, &written.text, fault)?;
-            Err(refused(alloc, "map", written.path, fault.number(), &fault, detail)?)
+            let said = refused_map(alloc, written.path, &written.text, fault)?;
+            Err(Ended::Refused { said })
         }
     }
 }
 
-/// What the rules say of a map between two profiles.
-pub(crate) fn examined<'a>(
-    alloc: Global,
-    sides: &ProfilePair,
-    map: Map,
-) -> Result<Judged, Ended<'a>> {
-    let ProfilePair { source, target } = sides.shared()?;
-    match gw_check::examine(alloc, source, target, map) {
-        Ok(checked) => Ok(Judged::Allowed(checked)),
-        Err(gw_check::Refusal::Memory(_)) => Err(Ended::Run(RunFault::Memory)),
-        Err(
-            gw_check::Refusal::Rules {
-                least,
-                found,
-                used,
-                map,
-            },
-        ) => Ok(Judged::Refused(Refused {
-            least,
-            failures: found,
-            used,
-            map,
-        })),
-    }
-}
-
 /// The map of a text, by the rules.
-pub(crate) fn judge<'a>(
+pub(crate) fn judged<'a>(
     alloc: Global,
     sides: &ProfilePair,
     written: &Written<'a>,
 ) -> Result<Judged, Ended<'a>> {
     let map = parse_map(alloc, written)?;
-    examined(alloc, sides, map)
-}
-
-// Prints the rule of a failure, and its line.
-fn write_rule<'a, O: Write>(
-    alloc: Global,
-    failure: Failure,
-    output: &mut O,
-) -> Result<(), Ended<'a>> {
-    let Failure { rule, mark } = failure;
-    let line = mark.line;
-    let said = format!(in alloc; "refused K{rule} line {line}\n")?;
-    write_all(output, said.as_bytes())?;
-    Ok(())
+    let judged = judge(alloc, sides, map)?;
+    Ok(judged)
 }
 
 // The same writer with a buffer: a refusal may be a megabyte in small pieces.
@@ -172,10 +109,12 @@ pub(crate) fn write_refusal<'a, O: Write, E: Write>(
     output: &mut O,
     errors: &mut E,
 ) -> Result<u8, Ended<'a>> {
-    let alike = refusal.alike(alloc)?;
+    let failures = refusal.in_order(alloc)?;
     let mut errors = buffered(alloc, errors)?;
-    write_rule(alloc, refusal.refused.least, output)?;
-    refusal.tell(alloc, &mut errors, &alike);
+    let (rule, line) = refusal.rule();
+    let said = format!(in alloc; "refused K{rule} line {line}\n")?;
+    write_all(output, said.as_bytes())?;
+    refusal.tell(alloc, &mut errors, &failures);
     Ok(REFUSED)
 }
 
@@ -183,42 +122,6 @@ pub(crate) fn write_refusal<'a, O: Write, E: Write>(
 pub(crate) fn write_accepted<'a, O: Write>(output: &mut O) -> Result<u8, Ended<'a>> {
     write_all(output, b"accepted\n")?;
     Ok(DONE)
-}
-
-// The same, with what may not be meant.
-fn write_hinted<'a, O: Write, E: Write>(
-    alloc: Global,
-    written: &Written<'_>,
-    map: &CheckedMap,
-    output: &mut O,
-    errors: &mut E,
-) -> Result<u8, Ended<'a>> {
-    print_hints(alloc, written, map, errors)?;
-    write_accepted(output)
-}
-
-// Prints what the rules say of a map, and answers the status.
-fn write_judged<'a, O: Write, E: Write>(
-    alloc: Global,
-    sides: &ProfilePair,
-    written: &Written<'a>,
-    has_hints: bool,
-    output: &mut O,
-    errors: &mut E,
-) -> Result<u8, Ended<'a>> {
-    let judged = judge(alloc, sides, written)?;
-    match &judged {
-        Judged::Allowed(map) if has_hints => write_hinted(alloc, written, map, output, errors),
-        Judged::Allowed(_) => write_accepted(output),
-        Judged::Refused(refused) => {
-            let refusal = Refusal {
-                sides,
-                written,
-                refused,
-            };
-            write_refusal(alloc, refusal, output, errors)
-        }
-    }
 }
 
 /// Prints whether the rules allow a map, and else the rule that refuses it; what a person needs to mend it goes to `errors`. Answers the status.
@@ -229,10 +132,25 @@ pub(crate) fn check<'a, R: Files + AllocGlobal, O: Write, E: Write>(
     output: &mut O,
     errors: &mut E,
 ) -> Result<u8, Ended<'a>> {
+    let alloc = rt.alloc();
     let sides = read_sides(rt, words)?;
     let written = read_written(rt, words, "MAP")?;
-    let has_hints = words.get_flag("hints");
-    write_judged(rt.alloc(), &sides, &written, has_hints, output, errors)
+    match &judged(alloc, &sides, &written)? {
+        Judged::Allowed(map) => {
+            if words.get_flag("hints") {
+                print_hints(alloc, &written, map, errors)?;
+            }
+            write_accepted(output)
+        }
+        Judged::Refused(refused) => {
+            let refusal = Refusal {
+                sides: &sides,
+                written: &written,
+                refused,
+            };
+            write_refusal(alloc, refusal, output, errors)
+        }
+    }
 }
 
 /// The tree of message bytes that conform to a profile.
@@ -254,17 +172,6 @@ fn tree_of<'a, R: AllocGlobal>(
     }
 }
 
-/// The translation of message bytes.
-fn translated<'a, R: AllocGlobal>(
-    rt: &R,
-    map: &CheckedMap,
-    content: &[u8],
-) -> Result<Message, Ended<'a>> {
-    let tree = tree_of(rt, map.source(), content)?;
-    let message = gw_interp::translate(rt.alloc(), map, &tree)?;
-    Ok(message)
-}
-
 /// Writes a message without a frame.
 pub(crate) fn write_message<'a, O: Write>(
     alloc: Global,
@@ -284,7 +191,8 @@ fn write_translation<'a, R: AllocGlobal, I: Read, O: Write>(
     output: &mut O,
 ) -> Result<u8, Ended<'a>> {
     let content = read_all(rt, input)?;
-    let message = translated(rt, map, &content)?;
+    let tree = tree_of(rt, map.source(), &content)?;
+    let message = gw_interp::translate(rt.alloc(), map, &tree)?;
     write_message(rt.alloc(), &message, output)?;
     Ok(DONE)
 }
@@ -295,36 +203,12 @@ pub(crate) fn print_refusal<'a, E: Write>(
     refusal: Refusal<'_>,
     errors: &mut E,
 ) -> Result<u8, Ended<'a>> {
-    let alike = refusal.alike(alloc)?;
+    let failures = refusal.in_order(alloc)?;
     let mut errors = buffered(alloc, errors)?;
-    let Failure { rule, mark } = refusal.refused.least;
-    let line = refusal.written.above.saturating_add(mark.line);
+    let (rule, line) = refusal.rule();
     let _ = writeln!(errors, "refused K{rule} line {line}");
-    refusal.tell(alloc, &mut errors, &alike);
+    refusal.tell(alloc, &mut errors, &failures);
     Ok(REFUSED)
-}
-
-// Writes the translation by a map that the rules allow, and else prints the rule that refuses it. Returns the status.
-fn translate_judged<'a, R: AllocGlobal, I: Read, O: Write, E: Write>(
-    rt: &R,
-    sides: &ProfilePair,
-    written: &Written<'a>,
-    input: &mut I,
-    output: &mut O,
-    errors: &mut E,
-) -> Result<u8, Ended<'a>> {
-    let judged = judge(rt.alloc(), sides, written)?;
-    match &judged {
-        Judged::Allowed(map) => write_translation(rt, map, input, output),
-        Judged::Refused(refused) => {
-            let refusal = Refusal {
-                sides,
-                written,
-                refused,
-            };
-            print_refusal(rt.alloc(), refusal, errors)
-        }
-    }
 }
 
 /// Prints the translation of the message on standard input. A refused map is reported before standard input is read. Returns the status.
@@ -338,5 +222,15 @@ pub(crate) fn translate<'a, R: Files + AllocGlobal, I: Read, O: Write, E: Write>
 ) -> Result<u8, Ended<'a>> {
     let sides = read_sides(rt, words)?;
     let written = read_written(rt, words, "MAP")?;
-    translate_judged(rt, &sides, &written, input, output, errors)
+    match &judged(rt.alloc(), &sides, &written)? {
+        Judged::Allowed(map) => write_translation(rt, map, input, output),
+        Judged::Refused(refused) => {
+            let refusal = Refusal {
+                sides: &sides,
+                written: &written,
+                refused,
+            };
+            print_refusal(rt.alloc(), refusal, errors)
+        }
+    }
 }

@@ -2,12 +2,11 @@
 ghost use Rattle.std.specs.Prelude.{◌≡◌, false, length, All, IfOk};
 
 use crate::ended::Ended;
-use crate::expected::in_plan;
 use crate::files::read_text;
 use crate::progress::{Counted, Watched};
-use crate::refusals;
 use crate::stamps::stamp_of;
 use clap::ArgMatches;
+use gw_diagnostics::refused_plan;
 use gw_plan::{Plan, PlanFault, Receiver};
 use gw_stream::{Counts, Reads, RunFault, Sink, Writes, serve_once};
 use std::alloc::{AllocError, Global};
@@ -25,8 +24,8 @@ pub(crate) fn refused<'a>(
     text: &[u8],
     fault: PlanFault,
 ) -> Result<Ended<'a>, AllocError> {
-    let detail = in_plan(alloc, text, fault)?;
-    refusals::refused(alloc, "plan", path, fault.number(), &fault, detail)
+    let said = refused_plan(alloc, path, text, fault)?;
+    Ok(Ended::Refused { said })
 }
 
 /// The plan of a file's text.

@@ -80,11 +80,6 @@ pub(crate) fn print_fault<E: Write>(errors: &mut E, fault: RunFault) -> u8 {
     }
 }
 
-/// Writes a message; where it can't be written, nothing is done about it.
-pub(crate) fn say<E: Write>(errors: &mut E, bytes: &[u8]) {
-    let _ = errors.write_all(bytes);
-}
-
 /// Writes all the bytes, and what the writer holds back.
 pub(crate) fn write_all<O: Write>(output: &mut O, bytes: &[u8]) -> Result<(), RunFault> {
     if output.write_all(bytes).is_err() || output.flush().is_err() {

@@ -1,5 +1,5 @@
 //! Elements of a profile in the field's words: their names, and how often they come.
-use crate::report::say;
+use crate::words::say;
 use gw_check::{comp_at, field_at, sub_at};
 use gw_profile::{CompShape, Node, Profile, SubShape, Usage};
 use gw_resolve::{CAP, Interval, nodes_within};

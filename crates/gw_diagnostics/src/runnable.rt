@@ -1,11 +1,10 @@
 //! A map as it can be run where the target demands nothing of fields, so that what it makes of a message can be looked at.
 use crate::elements::Named;
-use crate::maps::ProfilePair;
+use crate::judged::ProfilePair;
 use crate::skeleton::write_skeleton;
 use gw_check::{CheckedMap, FieldAt};
 use gw_maplang::{Map, MapFault};
 use gw_profile::{Profile, ProfileFault};
-use gw_stream::RunFault;
 use std::alloc::{AllocError, Global};
 use std::io;
 use std::io::Write;
@@ -28,20 +27,11 @@ struct Compact {
     lines: Vec<u32>,
 }
 
-/// The profile of a text that is made here. None where it isn't one.
-fn profile_of(alloc: Global, text: &[u8]) -> Result<Option<Arc<Profile>>, RunFault> {
-    match gw_profile::parse(alloc, text) {
-        Ok(profile) => Ok(Some(Arc::new(alloc, profile)?)),
-        Err(ProfileFault::Memory) => Err(RunFault::Memory),
-        Err(_) => Ok(None),
-    }
-}
-
 /// The map of a text that is made here. None where it isn't one.
-pub(crate) fn map_of(alloc: Global, text: &[u8]) -> Result<Option<Map>, RunFault> {
+pub(crate) fn map_of(alloc: Global, text: &[u8]) -> Result<Option<Map>, AllocError> {
     match gw_maplang::parse(alloc, text) {
         Ok(map) => Ok(Some(map)),
-        Err(MapFault::Memory) => Err(RunFault::Memory),
+        Err(MapFault::Memory) => Err(AllocError),
         Err(_) => Ok(None),
     }
 }
@@ -51,11 +41,15 @@ pub(crate) fn skeleton(
     alloc: Global,
     profile: &Profile,
     has_fields: bool,
-) -> Result<Option<Arc<Profile>>, RunFault> {
+) -> Result<Option<Arc<Profile>>, AllocError> {
     let mut text = Vec::new(alloc);
-    match write_skeleton(&mut text, profile, has_fields) {
-        Ok(()) => profile_of(alloc, &text),
-        Err(_) => Err(RunFault::Memory),
+    if write_skeleton(&mut text, profile, has_fields).is_err() {
+        return Err(AllocError);
+    }
+    match gw_profile::parse(alloc, &text) {
+        Ok(profile) => Ok(Some(Arc::new(alloc, profile)?)),
+        Err(ProfileFault::Memory) => Err(AllocError),
+        Err(_) => Ok(None),
     }
 }
 
@@ -89,12 +83,6 @@ impl Compact {
         }
         Ok(Compact { text, lines })
     }
-
-    /// The number in the map of a line of this text, 0 where the map has no such line.
-    fn line_of(&self, line: u32) -> u32 {
-        let number = (line as usize).wrapping_sub(1);
-        self.lines.get(number).copied().unwrap_or(0)
-    }
 }
 
 /// Adds a `drop` of each top segment or group with a field that the map passes over.
@@ -118,10 +106,10 @@ pub(crate) fn make_runnable(
     sides: &ProfilePair,
     map: &[u8],
     unread: &[FieldAt],
-) -> Result<Runnable, RunFault> {
+) -> Result<Runnable, AllocError> {
     let mut compact = Compact::of(alloc, map)?;
     if write_drops(&mut compact.text, &sides.source, unread).is_err() {
-        return Err(RunFault::Memory);
+        return Err(AllocError);
     }
     let Some(map) = map_of(alloc, &compact.text)? else {
         return Ok(Runnable::TooLarge);
@@ -131,9 +119,11 @@ pub(crate) fn make_runnable(
     };
     match gw_check::examine(alloc, sides.source.clone()?, target, map) {
         Ok(checked) => Ok(Runnable::Checked(checked)),
-        Err(gw_check::Refusal::Memory(_)) => Err(RunFault::Memory),
+        Err(gw_check::Refusal::Memory(_)) => Err(AllocError),
         Err(gw_check::Refusal::Rules { least, .. }) => {
-            let line = compact.line_of(least.mark.line);
+            // (its line in the map, 0 where the map has no such line)
+            let number = (least.mark.line as usize).wrapping_sub(1);
+            let line = compact.lines.get(number).copied().unwrap_or(0);
             Ok(Runnable::Broken(least.rule, line))
         }
     }

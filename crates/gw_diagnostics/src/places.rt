@@ -8,45 +8,28 @@ use std::collections::BTreeMap;
 /// A profile has no more lines.
 const MAX_LINES: u32 = 10_000;
 
-/// The letters of a segment's name, a field, a component, a subcomponent; 0 where the whole is meant.
-type Key = [usize; 6];
-
-/// A place in a profile: a segment's name, and in it a field, a component, a subcomponent, likewise.
-#[derive(Clone, Copy)]
-struct Place {
-    name: (usize, usize, usize),
-    field: usize,
-    comp: usize,
-    sub: usize,
-}
+/// A place in a profile: the letters of a segment's name, and in it a field, a component, a subcomponent; 0 where the whole is meant.
+type Place = [usize; 6];
 
 /// The number of the line of each place, 0 of a segment whose name stands more than once.
 #[derive(Drop)]
 pub(crate) struct PlaceLines {
-    lines: BTreeMap<Key, u32>,
+    lines: BTreeMap<Place, u32>,
 }
 
 /// The place of a segment.
 fn place_of(name: &[u8]) -> Place {
-    let name = match name {
-        [first, second, third, ..] => (
+    match name {
+        [first, second, third, ..] => [
             usize::from(*first),
             usize::from(*second),
             usize::from(*third),
-        ),
-        _ => (0, 0, 0),
-    };
-    Place {
-        name,
-        field: 0,
-        comp: 0,
-        sub: 0,
+            0,
+            0,
+            0,
+        ],
+        _ => [0; 6],
     }
-}
-
-fn key_of(place: Place) -> Key {
-    let (first, second, third) = place.name;
-    [first, second, third, place.field, place.comp, place.sub]
 }
 
 /// The number that a word of an accepted line spells.
@@ -66,41 +49,13 @@ fn place_below(place: Place, keyword: &[u8], word: &[u8]) -> Place {
         return place_of(word);
     }
     let number = number_of(word);
+    let [first, second, third, field, comp, _] = place;
     match depth_of(keyword) {
-        1 => Place {
-            field: number,
-            comp: 0,
-            sub: 0,
-            ..place
-        },
-        2 => Place {
-            comp: number,
-            sub: 0,
-            ..place
-        },
-        3 => Place {
-            sub: number,
-            ..place
-        },
+        1 => [first, second, third, number, 0, 0],
+        2 => [first, second, third, field, number, 0],
+        3 => [first, second, third, field, comp, number],
         _ => place,
     }
-}
-
-/// Notes of which place a line speaks.
-fn note_line(
-    lines: &mut BTreeMap<Key, u32>,
-    place: Place,
-    keyword: &[u8],
-    number: u32,
-) -> Result<(), AllocError> {
-    let key = key_of(place);
-    let is_segment = keyword == b"segment".as_slice();
-    if is_segment && lines.contains_key(&key) {
-        lines.insert(key, 0)?;
-    } else if is_segment || depth_of(keyword) > 0 {
-        lines.insert(key, number)?;
-    }
-    Ok(())
 }
 
 impl PlaceLines {
@@ -114,14 +69,19 @@ impl PlaceLines {
             rest = behind(rest, 1);
             let keyword = word_at(&words, 0);
             place = place_below(place, keyword, word_at(&words, 1));
-            note_line(&mut lines, place, keyword, number)?;
+            let is_segment = keyword == b"segment".as_slice();
+            if is_segment && lines.contains_key(&place) {
+                lines.insert(place, 0)?;
+            } else if is_segment || depth_of(keyword) > 0 {
+                lines.insert(place, number)?;
+            }
         }
         Ok(PlaceLines { lines })
     }
 
     /// The number of the line of this place, where one is noted.
     fn at(&self, place: Place) -> u32 {
-        match self.lines.get(&key_of(place)) {
+        match self.lines.get(&place) {
             None => 0,
             Some(line) => *line,
         }
@@ -141,13 +101,9 @@ impl PlaceLines {
         if found == 0 || kind == Kind::OutOfOrder {
             return None;
         }
+        let [first, second, third, _, _, _] = segment;
         for (comp, sub) in [(0, 0), (comp, 0), (comp, sub)] {
-            let line = self.at(Place {
-                field,
-                comp,
-                sub,
-                ..segment
-            });
+            let line = self.at([first, second, third, field, comp, sub]);
             if line > 0 {
                 found = line;
             }

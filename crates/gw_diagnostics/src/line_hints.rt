@@ -2,12 +2,12 @@
 use crate::advice::Written;
 use crate::chosen::{chosen_by, conditions_of, write_value};
 use crate::elements::Named;
-use crate::report::say;
 use crate::subjects::{may_have, read_of};
-use crate::unreached::{always_gives, is_reached, is_same_place};
+use crate::unreached::{always_gives, is_part_sure, is_reached, is_same_place};
+use crate::words::say;
 use gw_check::{CheckedMap, Origin, Site, field_at};
 use gw_maplang::Condition;
-use gw_profile::{Profile, Table, Usage};
+use gw_profile::{Profile, Table};
 use std::alloc::{AllocError, Global};
 use std::io::Write;
 
@@ -30,11 +30,6 @@ fn names_all(named: Named<'_>, condition: &Condition) -> bool {
         }
     }
     true
-}
-
-/// Whether a part of a field is always there in a repetition that is present.
-fn is_part_sure(named: Named<'_>) -> bool {
-    named.is_comp_of(Usage::R) && named.sub_shape().is_some_and(|sub| sub.usage == Usage::R)
 }
 
 // ---- conditions

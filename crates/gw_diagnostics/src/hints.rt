@@ -89,21 +89,8 @@ fn print_drops<E: Write>(
     Ok(())
 }
 
-/// Whether a profile lists MSH-18.
-fn lists_characters(profile: &Profile) -> bool {
-    match profile.nodes().first() {
-        Some(Node::Seg(header)) => {
-            header
-                .fields
-                .iter()
-                .any(|field| field.number == CHARACTER_SET)
-        }
-        _ => false,
-    }
-}
-
 /// Reports what a person may want to look at in a map that the rules allow.
-pub(crate) fn print_hints<E: Write>(
+pub fn print_hints<E: Write>(
     alloc: Global,
     written: &Written<'_>,
     map: &CheckedMap,
@@ -113,7 +100,16 @@ pub(crate) fn print_hints<E: Write>(
     print_conditions(alloc, written, map, &sites, errors)?;
     print_leaves(written, map.source(), &sites, errors);
     print_drops(alloc, written, map, &sites, errors)?;
-    if !lists_characters(map.source()) {
+    let lists_characters = match map.source().nodes().first() {
+        Some(Node::Seg(header)) => {
+            header
+                .fields
+                .iter()
+                .any(|field| field.number == CHARACTER_SET)
+        }
+        _ => false,
+    };
+    if !lists_characters {
         let _ = writeln!(
             errors,
             "hint: the source doesn't list MSH-18, so the rules don't ask for it: without it a receiver takes each text for ASCII"

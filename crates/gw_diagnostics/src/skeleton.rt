@@ -3,23 +3,18 @@ use gw_profile::{Card, Node, Profile, SegNode, Usage};
 use std::io;
 use std::io::Write;
 
-/// The cardinality, and the end of the line.
-fn write_card(out: &mut Vec<u8>, card: Card) -> io::Result<()> {
-    let Card { min, max } = card;
-    match max {
-        None => writeln!(out, "{min}..*"),
-        Some(max) => writeln!(out, "{min}..{max}"),
-    }
-}
-
-/// The usage and the cardinality of a segment or group, none of which is asked for where it may be absent.
+/// The usage and the cardinality of a segment or group, none of which is asked for where it may be absent, and the end of the line.
 fn write_often(out: &mut Vec<u8>, usage: Usage, card: Card) -> io::Result<()> {
     match usage {
         Usage::R => out.write_all(b" R ")?,
         Usage::X => out.write_all(b" X ")?,
         _ => out.write_all(b" O ")?,
     }
-    write_card(out, card)
+    let Card { min, max } = card;
+    match max {
+        None => writeln!(out, "{min}..*"),
+        Some(max) => writeln!(out, "{min}..{max}"),
+    }
 }
 
 /// A segment, with each field that may come where they are asked for.

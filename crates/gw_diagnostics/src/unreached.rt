@@ -1,9 +1,9 @@
 //! What the refusal of a condition that can't hold speaks of, and that of an alternative that can't be reached.
 use crate::advice::Refusal;
 use crate::elements::{Named, node_at};
-use crate::report::say;
 use crate::subjects::{Telling, is_condition, print_length, print_table, read_of};
-use gw_check::{ElementPath, Origin, Site, comp_at, field_at, sub_at};
+use crate::words::say;
+use gw_check::{ElementPath, Origin, Site, comp_at, field_at};
 use gw_profile::{Profile, Usage, measure};
 use gw_resolve::FailureSite;
 use std::io::Write;
@@ -55,17 +55,9 @@ pub(crate) fn is_reached(source: &Profile, from: &ElementPath) -> bool {
         && field.card.min > 0)
 }
 
-/// Whether the component and subcomponent that are read are always there, where their field is.
-pub(crate) fn is_whole(source: &Profile, from: &ElementPath) -> bool {
-    let ElementPath {
-        at,
-        field,
-        comp,
-        sub,
-        ..
-    } = from;
-    comp_at(source, at, *field, *comp).is_some_and(|shape| shape.usage == Usage::R)
-        && sub_at(source, at, *field, *comp, *sub).is_some_and(|shape| shape.usage == Usage::R)
+/// Whether a part of a field is always there in a repetition that is present.
+pub(crate) fn is_part_sure(named: Named<'_>) -> bool {
+    named.is_comp_of(Usage::R) && named.sub_shape().is_some_and(|sub| sub.usage == Usage::R)
 }
 
 /// Whether a line repeats this field of the source, for the same field of the target.
@@ -88,7 +80,8 @@ pub(crate) fn always_gives(source: &Profile, sites: &[Site], site: &Site) -> boo
     match &site.origin {
         Origin::Text(_) => true,
         Origin::Read(from) | Origin::LookedUp(_, from) => {
-            is_whole(source, from) && (is_repeated(sites, site, from) || is_reached(source, from))
+            let named = Named::whole(source, &from.at, from.field).part(from.comp, from.sub);
+            is_part_sure(named) && (is_repeated(sites, site, from) || is_reached(source, from))
         }
         Origin::Unsaid | Origin::Repeated(_) | Origin::Dated(_, _) => false,
     }

@@ -2,9 +2,9 @@
 use crate::advice::Refusal;
 use crate::chosen::condition_at;
 use crate::elements::{Named, node_at, print_interval};
-use crate::maps::ProfilePair;
-use crate::report::say;
+use crate::judged::ProfilePair;
 use crate::unreached::is_same_place;
+use crate::words::say;
 use gw_check::{ElementPath, Origin, Site, Taker, untaken};
 use gw_maplang::Table as Rows;
 use gw_profile::{Count, Profile, Usage, measure};

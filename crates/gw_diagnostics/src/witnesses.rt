@@ -1,14 +1,14 @@
 //! Samples of a source that show why a map is refused.
 use crate::advice::{Refused, Written};
 use crate::breaches::{Spot, spot_of, words_of};
-use crate::maps::ProfilePair;
+use crate::judged::ProfilePair;
 use crate::refusals::write_place;
 use crate::runnable::{Runnable, make_runnable};
+use crate::words::in_memory;
 use gw_check::CheckedMap;
 use gw_er7::Message;
 use gw_profile::{Node, Profile, SegNode};
 use gw_sample::{Extent, Texts, sample};
-use gw_stream::RunFault;
 use gw_validate::{Breach, Tree, breaches};
 use std::alloc::{AllocError, Global};
 use std::collections::BTreeMap;
@@ -52,13 +52,6 @@ const NO_BREACH: &[u8] = b"no sample that was tried has a translation that break
 const NONE_TRIED: &[u8] =
     b"\nno sample is tried: lines that drop what the map passes over are added for that, and make it too large\n";
 
-/// A sample of the source with its translation.
-#[derive(Drop)]
-struct Pair {
-    tree: Tree,
-    made: Message,
-}
-
 /// What was shown so far: the places of the target, and the text; whether there was a sample, and whether one had no room.
 #[derive(Drop)]
 struct Shown {
@@ -66,20 +59,6 @@ struct Shown {
     out: Vec<u8>,
     has_tried: bool,
     is_cut: bool,
-}
-
-/// A sample with its translation. None where each message of the source is too large.
-fn translated(
-    alloc: Global,
-    map: &CheckedMap,
-    extent: Extent,
-    texts: Texts,
-) -> Result<Option<Pair>, AllocError> {
-    let Some(tree) = sample(alloc, map.source(), extent, texts)? else {
-        return Ok(None);
-    };
-    let made = gw_interp::translate(alloc, map, &tree)?;
-    Ok(Some(Pair { tree, made }))
 }
 
 /// A message, a line for each segment.
@@ -103,16 +82,17 @@ fn write_lines(alloc: Global, out: &mut Vec<u8>, message: &Message) -> io::Resul
 fn write_witness(
     alloc: Global,
     out: &mut Vec<u8>,
-    pair: &Pair,
+    tree: &Tree,
+    made: &Message,
     target: &Profile,
     found: &[Breach],
 ) -> io::Result<()> {
     out.write_all(b"\na message that conforms to ")?;
-    out.write_all(pair.tree.profile().name())?;
+    out.write_all(tree.profile().name())?;
     out.write_all(b":\n")?;
-    write_lines(alloc, out, pair.tree.message())?;
+    write_lines(alloc, out, tree.message())?;
     out.write_all(b"what the map makes of it:\n")?;
-    write_lines(alloc, out, &pair.made)?;
+    write_lines(alloc, out, made)?;
     out.write_all(b"how that breaks ")?;
     out.write_all(target.name())?;
     out.write_all(b":\n")?;
@@ -154,7 +134,7 @@ impl Shown {
         Ok(())
     }
 
-    /// Tries a sample, and shows it where its translation breaks the target as none before did.
+    /// Tries a sample, where a message of the source isn't too large, and shows it where its translation breaks the target as none before did.
     fn attempt(
         &mut self,
         alloc: Global,
@@ -162,19 +142,20 @@ impl Shown {
         target: &Profile,
         extent: Extent,
         texts: Texts,
-    ) -> Result<(), RunFault> {
-        let Some(pair) = translated(alloc, map, extent, texts)? else {
+    ) -> Result<(), AllocError> {
+        let Some(tree) = sample(alloc, map.source(), extent, texts)? else {
             return Ok(());
         };
         self.has_tried = true;
-        let found = breaches(alloc, target, &pair.made)?;
+        let made = gw_interp::translate(alloc, map, &tree)?;
+        let found = breaches(alloc, target, &made)?;
         let news = self.news(alloc, &found)?;
         if news.is_empty() {
             return Ok(());
         }
         let mut text = Vec::new(alloc);
-        if write_witness(alloc, &mut text, &pair, target, &news).is_err() {
-            return Err(RunFault::Memory);
+        if write_witness(alloc, &mut text, &tree, &made, target, &news).is_err() {
+            return Err(AllocError);
         }
         self.add(&text, &news)?;
         Ok(())
@@ -188,7 +169,7 @@ impl Shown {
         target: &Profile,
         extents: &[Extent],
         texts: Texts,
-    ) -> Result<(), RunFault> {
+    ) -> Result<(), AllocError> {
         for extent in extents {
             self.attempt(alloc, map, target, *extent, texts)?;
         }
@@ -201,8 +182,9 @@ impl Shown {
         alloc: Global,
         map: &CheckedMap,
         target: &Profile,
-    ) -> Result<(), RunFault> {
-        let lengths = lengths(alloc, target)?;
+    ) -> Result<(), AllocError> {
+        let mut lengths = BTreeMap::new(alloc);
+        add_all(&mut lengths, target.nodes())?;
         let count = lengths.len();
         let mut number: usize = 0;
         let mut next: usize = 1;
@@ -224,7 +206,7 @@ impl Shown {
         alloc: Global,
         map: &CheckedMap,
         target: &Profile,
-    ) -> Result<(), RunFault> {
+    ) -> Result<(), AllocError> {
         self.attempt_each(alloc, map, target, &EXTENTS, Texts::Value(0))?;
         self.attempt_lengths(alloc, map, target)?;
         // (behind the last value of a table comes the first again, which may not be the usual one)
@@ -299,15 +281,8 @@ fn add_node(lengths: &mut BTreeMap<u32, u64>, node: &Node) -> Result<(), AllocEr
     }
 }
 
-/// The lengths of texts that are too long by one for a leaf of the target, the least first.
-fn lengths(alloc: Global, target: &Profile) -> Result<BTreeMap<u32, u64>, AllocError> {
-    let mut lengths = BTreeMap::new(alloc);
-    add_all(&mut lengths, target.nodes())?;
-    Ok(lengths)
-}
-
 /// The samples that show by a map why it is refused, as text.
-fn samples_of(alloc: Global, map: &CheckedMap, target: &Profile) -> Result<Vec<u8>, RunFault> {
+fn samples_of(alloc: Global, map: &CheckedMap, target: &Profile) -> Result<Vec<u8>, AllocError> {
     let mut shown = Shown {
         spots: BTreeMap::new(alloc),
         out: Vec::new(alloc),
@@ -320,12 +295,12 @@ fn samples_of(alloc: Global, map: &CheckedMap, target: &Profile) -> Result<Vec<u
 }
 
 /// The samples that show why a map is refused, as text, or why there are none.
-pub(crate) fn witnesses(
+pub fn counterexamples(
     alloc: Global,
     sides: &ProfilePair,
     written: &Written<'_>,
     refused: &Refused,
-) -> Result<Vec<u8>, RunFault> {
+) -> Result<Vec<u8>, AllocError> {
     match make_runnable(alloc, sides, &written.text, &refused.used.unread)? {
         Runnable::Checked(map) => samples_of(alloc, &map, &sides.target),
         Runnable::Broken(rule, line) => broken(alloc, rule, line, &sides.target),
@@ -334,15 +309,12 @@ pub(crate) fn witnesses(
 }
 
 /// Says that nothing can be translated, and why.
-fn broken(alloc: Global, rule: u8, line: u32, target: &Profile) -> Result<Vec<u8>, RunFault> {
+fn broken(alloc: Global, rule: u8, line: u32, target: &Profile) -> Result<Vec<u8>, AllocError> {
     let name = target.name().escape_ascii();
     let mut out = Vec::new(alloc);
     let said = writeln!(
         out,
         "\nno sample can be translated: K{rule} fails at line {line}, and isn't on the fields of {name}"
     );
-    match said {
-        Ok(()) => Ok(out),
-        Err(_) => Err(RunFault::Memory),
-    }
+    in_memory(out, said)
 }

@@ -27,26 +27,16 @@ pub(crate) fn word_at<'t>(words: &[Word<'t>], number: usize) -> &'t [u8] {
     }
 }
 
-/// Whether this is one of the words.
-fn is_among(word: &[u8], words: &[&[u8]]) -> bool {
-    words.contains(&word)
-}
-
 /// The keywords of rules.
 const RULES: &[&[u8]] = &[b"copy", b"first", b"repeat", b"build"];
 
-/// The kind of a line, by its keyword: segments and groups share labels, rules share fields.
-fn kind_of(keyword: &[u8]) -> &[u8] {
-    if is_among(keyword, RULES) {
-        b"build"
-    } else if keyword == b"group".as_slice() {
-        b"segment"
-    } else {
-        keyword
-    }
-}
+/// The keywords of lines that say no name: each is known by its place behind the others, an `else` by its table.
+const UNNAMED: &[&[u8]] = &[b"field", b"comp", b"sub", b"else"];
 
-/// The name that a line says. A field, component or subcomponent is known by its place behind the others, an `else` by its table.
+/// The keywords of lines that an `end` closes.
+const OPENING: &[&[u8]] = &[b"group", b"flat"];
+
+/// The name that a line says.
 fn name_in<'t>(words: &[Word<'t>]) -> &'t [u8] {
     let keyword = word_at(words, 0);
     let second = word_at(words, 1);
@@ -54,7 +44,7 @@ fn name_in<'t>(words: &[Word<'t>]) -> &'t [u8] {
         word_at(words, 3)
     } else if keyword == b"at".as_slice() {
         second.strip_suffix(b".1".as_slice()).unwrap_or(second)
-    } else if is_among(keyword, &[b"field", b"comp", b"sub", b"else"]) {
+    } else if UNNAMED.contains(&keyword) {
         &[]
     } else {
         second
@@ -100,8 +90,16 @@ fn takes_of(above: &[Word<'_>], senders: &[Word<'_>], sorted: &[&[u8]]) -> bool 
             .any(|word| sorted.binary_search(&bytes_of(*word)).is_ok())
 }
 
+/// What a line says: segments and groups share labels, rules share fields.
 fn said_in<'t>(words: &[Word<'t>]) -> Said<'t> {
-    let kind = kind_of(word_at(words, 0));
+    let keyword = word_at(words, 0);
+    let kind: &[u8] = if RULES.contains(&keyword) {
+        b"build"
+    } else if keyword == b"group".as_slice() {
+        b"segment"
+    } else {
+        keyword
+    };
     let event = if kind == b"route".as_slice() {
         word_at(words, 2)
     } else {
@@ -129,30 +127,10 @@ const AGAIN_BEHIND: &[(&[u8], &[&[u8]])] = &[
 fn begins_anew(kind: &[u8], keyword: &[u8]) -> bool {
     for (said, keywords) in AGAIN_BEHIND {
         if *said == kind {
-            return is_among(keyword, keywords);
+            return keywords.contains(&keyword);
         }
     }
     false
-}
-
-/// The number of the last line that says something at the current level, and of those at each level around it; 0 where none does.
-#[derive(Drop)]
-struct LastSaid {
-    number: u32,
-    outer: Vec<u32>,
-}
-
-impl LastSaid {
-    // A line with this keyword may begin a level, or end one.
-    fn pass(&mut self, keyword: &[u8]) -> Result<(), AllocError> {
-        if keyword == b"group".as_slice() {
-            self.outer.push(self.number)?;
-            self.number = 0;
-        } else if keyword == b"end".as_slice() {
-            self.number = self.outer.pop().unwrap_or(0);
-        }
-        Ok(())
-    }
 }
 
 /// The number of the last line above this one that says what it says, at the same level; 0 where none does.
@@ -161,24 +139,28 @@ pub(crate) fn said_above(alloc: Global, text: &[u8], line: u32) -> Result<u32, A
     let said = said_in(&words);
     let senders = senders_in(&words);
     let sorted = sorted_words(alloc, senders)?;
-    let mut last = LastSaid {
-        number: 0,
-        outer: Vec::new(alloc),
-    };
+    // (the last line that says it at the current level, and those at each level around it)
+    let mut last = 0;
+    let mut outer: Vec<u32> = Vec::new(alloc);
     let mut rest = text;
     for number in 1..line {
         let words = words_in(alloc, line_at(rest, 1))?;
         rest = behind(rest, 1);
         let keyword = word_at(&words, 0);
         if begins_anew(said.kind, keyword) {
-            last.number = 0;
+            last = 0;
         }
         if said_in(&words) == said && takes_of(&words, senders, &sorted) {
-            last.number = number;
+            last = number;
         }
-        last.pass(keyword)?;
+        if keyword == b"group".as_slice() {
+            outer.push(last)?;
+            last = 0;
+        } else if keyword == b"end".as_slice() {
+            last = outer.pop().unwrap_or(0);
+        }
     }
-    Ok(last.number)
+    Ok(last)
 }
 
 /// The number of the innermost group or flat that is open at a line; 0 where none is.
@@ -188,7 +170,7 @@ pub(crate) fn open_above(alloc: Global, text: &[u8], line: u32) -> Result<u32, A
     for number in 1..line {
         let keyword = keyword_of(line_at(rest, 1));
         rest = behind(rest, 1);
-        if is_among(keyword, &[b"group", b"flat"]) {
+        if OPENING.contains(&keyword) {
             open.push(number)?;
         } else if keyword == b"end".as_slice() {
             open.pop();

@@ -1,8 +1,11 @@
 //! What a person needs of a map that a rule refuses: the file and its line, what the rule demands, and what to do.
+ghost use Rattle.std.specs.Prelude.{◌≡◌, Bool, ◌==◌, IfOk};
+ghost use Rattle.gw_diagnostics.specs.Order.{place_of, AreInOrder};
+
 use crate::elements::Named;
-use crate::maps::ProfilePair;
-use crate::report::say;
+use crate::judged::ProfilePair;
 use crate::subjects::{Telling, first_absent};
+use crate::words::say;
 use gw_check::{Site, SourceUse, site_at};
 use gw_maplang::Map;
 use gw_resolve::Failure;
@@ -31,31 +34,48 @@ const ADVICE: [&str; 13] = [
 ];
 
 /// The file of a map, its text, and how many lines of the file come before it.
-#[derive(Drop)]
-pub(crate) struct Written<'a> {
-    pub(crate) path: &'a str,
-    pub(crate) text: Vec<u8>,
-    pub(crate) above: u32,
+pub struct Written<'a> {
+    pub path: &'a str,
+    pub text: Vec<u8>,
+    pub above: u32,
+}
+
+// (this and the next by hand, so that no crate above proves again how their fields are dropped)
+impl Drop for Written<'_> {
+    fn drop(self) {
+        let Written {
+            path: _,
+            text: _,
+            above: _,
+        } = self;
+    }
 }
 
 /// A map that a rule refuses: the least failure, all of them, and what the map makes of its source.
-#[derive(Drop)]
-pub(crate) struct Refused {
-    pub(crate) least: Failure,
-    pub(crate) failures: Vec<Failure>,
-    pub(crate) used: SourceUse,
-    pub(crate) map: Map,
+pub struct Refused {
+    pub least: Failure,
+    pub failures: Vec<Failure>,
+    pub used: SourceUse,
+    pub map: Map,
 }
 
-/// The failures of each rule at each line, in the order of the definition.
-pub(crate) type Alike = BTreeMap<(u32, u8), Vec<Failure>>;
+impl Drop for Refused {
+    fn drop(self) {
+        let Refused {
+            least: _,
+            failures: _,
+            used: _,
+            map: _,
+        } = self;
+    }
+}
 
 /// A map that a rule refuses, with its text and its profiles.
 #[derive(Clone, Copy)]
-pub(crate) struct Refusal<'a> {
-    pub(crate) sides: &'a ProfilePair,
-    pub(crate) written: &'a Written<'a>,
-    pub(crate) refused: &'a Refused,
+pub struct Refusal<'a> {
+    pub sides: &'a ProfilePair,
+    pub written: &'a Written<'a>,
+    pub refused: &'a Refused,
 }
 
 /// What a rule demands, and what to do.
@@ -90,24 +110,41 @@ pub(crate) fn line_at(text: &[u8], number: u32) -> &[u8] {
     cut(behind(text, number - 1), b'\n').0.trim_ascii()
 }
 
+/// The place of a failure in the report: by line, and of a line by rule.
+fn place_of(failure: &Failure) -> u64
+    ensures { result ≡ place_of failure.now }
+{
+    let (line, rule): (u32, u8) = (failure.mark.line, failure.rule);
+    u64::from(line) * 256 + u64::from(rule)
+}
+
+/// Whether failures are of one rule at one line: these are reported together.
+fn is_alike(one: &Failure, other: &Failure) -> bool {
+    place_of(one) == place_of(other)
+}
+
 impl Refusal<'_> {
-    /// The failures of each rule at each line.
-    pub(crate) fn alike(&self, alloc: Global) -> Result<Alike, AllocError> {
-        let mut alike: Alike = BTreeMap::new(alloc);
-        for failure in self.refused.failures.as_slice() {
-            let key = (failure.mark.line, failure.rule);
-            if !alike.contains_key(&key) {
-                alike.insert(key, Vec::new(alloc))?;
-            }
-            if let Some(others) = alike.get_mut(&key) {
-                others.push(*failure)?;
-            }
-        }
-        Ok(alike)
+    /// The number of the least rule that fails, and the line of the file at which it fails first.
+    pub fn rule(&self) -> (u8, u32) {
+        let Failure { rule, mark } = self.refused.least;
+        (rule, self.written.above.saturating_add(mark.line))
+    }
+
+    /// The failures in the order in which they are reported: by line, of a line by rule, of a rule as the definition has them.
+    pub fn in_order(&self, alloc: Global) -> Result<Vec<Failure>, AllocError>
+        ensures { IfOk result (λ failures. AreInOrder self.now.refused.now.failures.items failures.items) }
+    {
+        let mut failures = Vec::from_slice(alloc, &self.refused.failures)?;
+        failures.sort_by_key(
+            |failure: &Failure| -> u64
+                ensures { result ≡ place_of failure.now }
+            { place_of(failure) },
+        )?;
+        Ok(failures)
     }
 
     /// Reports the file with its line, what the failure speaks of, what to do, and what fails as well. It flushes the writer.
-    pub(crate) fn tell<E: Write>(self, alloc: Global, errors: &mut E, alike: &Alike) {
+    pub fn tell<E: Write>(self, alloc: Global, errors: &mut E, failures: &[Failure]) {
         let Failure { rule, mark } = self.refused.least;
         let mut telling = Telling {
             refusal: self,
@@ -117,14 +154,18 @@ impl Refusal<'_> {
         telling.print_line(mark.line);
         say(telling.errors, line_at(&self.written.text, mark.line));
         say(telling.errors, b"\n");
-        if rule > LAST_OF_LABELS
-            && let Some(failures) = alike.get(&(mark.line, rule))
-        {
-            telling.print_subject(mark.line, failures);
-            say(telling.errors, b"\n");
+        for alike in failures.chunk_by(is_alike) {
+            if rule > LAST_OF_LABELS
+                && alike
+                    .first()
+                    .is_some_and(|first| is_alike(first, &self.refused.least))
+            {
+                telling.print_subject(mark.line, alike);
+                say(telling.errors, b"\n");
+            }
         }
         let _ = writeln!(telling.errors, "{}", advice(rule));
-        telling.print_others(alike);
+        telling.print_others(failures);
         let _ = telling.errors.flush();
     }
 }
@@ -199,31 +240,35 @@ impl<'a, E: Write> Telling<'a, '_, E> {
     }
 
     /// Reports how many more rules fail, and each in a line of its own: of a label the line itself, and what the rule demands.
-    fn print_others(&mut self, alike: &Alike) {
+    fn print_others(&mut self, failures: &[Failure]) {
         let Refusal {
             written,
             refused,
             ..
         } = self.refusal;
-        let more = alike.len().saturating_sub(1);
+        let more = failures.chunk_by(is_alike).count().saturating_sub(1);
         if more == 0 {
             return;
         }
         let _ = writeln!(self.errors, "and {more} more:");
         let mut text = written.text.as_slice();
         let mut at = 1;
-        for ((line, rule), failures) in alike {
+        for alike in failures.chunk_by(is_alike) {
+            let Some(first) = alike.first() else {
+                break;
+            };
+            let (line, rule) = (first.mark.line, first.rule);
             text = behind(text, line.saturating_sub(at));
-            at = *line;
-            if (*line, *rule) != (refused.least.mark.line, refused.least.rule) {
-                self.print_line(*line);
+            at = line;
+            if !is_alike(first, &refused.least) {
+                self.print_line(line);
                 let _ = write!(self.errors, "K{rule}: ");
-                if *rule <= LAST_OF_LABELS {
+                if rule <= LAST_OF_LABELS {
                     say(self.errors, line_at(text, 1));
                     say(self.errors, b": ");
-                    say(self.errors, cut(advice(*rule).as_bytes(), b':').0);
+                    say(self.errors, cut(advice(rule).as_bytes(), b':').0);
                 } else {
-                    self.print_subject(*line, failures);
+                    self.print_subject(line, alike);
                 }
                 say(self.errors, b"\n");
             }
