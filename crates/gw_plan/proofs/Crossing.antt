@@ -11,6 +11,7 @@ use Rattle.gw_profile.specs.contracts.profile.Profile as Profile
 use Rattle.gw_maplang.proofs.item.Item.TheLaws.TheKnot as raw
 use Rattle.gw_maplang.proofs.item.FromItem.TheSendSync as from_item
 use Rattle.gw_maplang.proofs.item.AlwaysItem.TheSendSync as always_item
+use Rattle.gw_maplang.proofs.chosen.ChosenValues.TheSendSync as chosen
 use Rattle.gw_maplang.proofs.table.Table.TheSendSync as rows
 use Rattle.gw_maplang.proofs.rule.Dropped.TheSendSync as dropped
 use Rattle.gw_maplang.specs.contracts.item.Item as RawItem
@@ -46,10 +47,10 @@ Profile-sync = search (Node-sync, table.the_sync, maps.crosses, crosses, sendabl
 -- ---- maps
 
 RawItem-send : IsSend (RawItem.the_field).row
-RawItem-send = raw.send-Item from_item.the_field_send always_item.the_field_send (search (crosses, sendable) depth 20) (search (crosses, sendable) depth 20) (λ h s. Vec-send h s) (search (crosses, sendable) depth 20)
+RawItem-send = raw.send-Item from_item.the_field_send always_item.the_field_send (search (crosses, sendable) depth 20) (search (chosen.the_send, crosses, sendable) depth 20) (λ h s. Vec-send h s) (search (crosses, sendable) depth 20)
 
 RawItem-sync : IsSync (RawItem.the_field).row
-RawItem-sync = raw.sync-Item from_item.the_field_sync always_item.the_field_sync (search (crosses, sendable) depth 20) (search (crosses, sendable) depth 20) (λ h s. Vec-sync h s) (search (crosses, sendable) depth 20)
+RawItem-sync = raw.sync-Item from_item.the_field_sync always_item.the_field_sync (search (crosses, sendable) depth 20) (search (chosen.the_sync, crosses, sendable) depth 20) (λ h s. Vec-sync h s) (search (crosses, sendable) depth 20)
 
 Map-send : IsSend (Map.the_field).row
 Map-send = search (RawItem-send, rows.the_send, dropped.the_send, maps.crosses, crosses, sendable) depth 60 fits 50000
