@@ -1,9 +1,2 @@
-pub mod Turning
-pub mod Fitting
-pub mod Marking
-pub mod Meeting
-pub mod Prefixes
-pub mod Dues
-pub mod Chaining
-pub mod Following
-pub mod Giving
+pub mod Crossing
+pub mod Counting

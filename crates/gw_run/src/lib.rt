@@ -1,26 +1,20 @@
-//! Holds what the passes of a locked gate noted against its journal, and reports what the gate did.
+//! A gate behind its lock, and the passes that threads step it through.
 //!
-//! It also hands on the locked gate, what works at any door, and streams, for callers that need no other crate of these layers.
+//! Threads step a [`LockedGate`] one event at a time, each through a [`Pass`] of its own, which notes the replies.
+//! It also hands on what works at any door, and streams, for callers that need no other crate of these layers.
 #![tactic(auto)]
 
-mod audit;
-mod delivery_queue;
-mod job_index;
-mod join;
-pub mod laws;
-mod note_check;
-mod parts;
-mod plan_index;
-mod receipt_counts;
-mod report;
-mod turning_points;
+mod awaited;
+mod counted;
+mod locked;
+mod pass;
 
+pub use counted::Counted;
 pub use gw_crew::{
     Clock, Door, Note, Pause, Phase, Receipt, Solo, SwapFault, courier, cut, swap, worker,
 };
-pub use gw_lock::{Counted, LockedGate, Pass, Receipts};
 pub use gw_stream::{
     Counts, Failed, Reads, RunFault, Sink, Source, Writes, answer_stream, serve_once,
 };
-pub use join::join_all;
-pub use report::Report;
+pub use locked::LockedGate;
+pub use pass::{Pass, Receipts};

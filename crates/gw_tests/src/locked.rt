@@ -3,9 +3,10 @@ ghost use Rattle.std.specs.Prelude.{◌≡◌};
 
 use crate::gates::{CUT, HISTORIES, History, Step, begun, event, plan, said};
 use crate::refusals::{holds, refuse};
+use gw_audit::{Report, join_all};
 use gw_gate::{Chapter, Event, Gate, Reply};
 use gw_plan::Plan;
-use gw_run::{Door, LockedGate, Pass, Phase, Report, RunFault, join_all};
+use gw_run::{Door, LockedGate, Pass, Phase, RunFault};
 use std::alloc::Global;
 use std::marker::Brand;
 use std::sync::ledger::{Blank, Ledger};

@@ -4,9 +4,10 @@ ghost use Rattle.std.specs.Thread.{IsSend, IsSync};
 
 use crate::gates::{admitted, begun, plan};
 use crate::locked::replies;
+use gw_audit::{Report, join_all};
 use gw_gate::Event;
 use gw_plan::Plan;
-use gw_run::{Door, LockedGate, Pass, Pause, Phase, Receipts, Report, RunFault, join_all, worker};
+use gw_run::{Door, LockedGate, Pass, Pause, Phase, Receipts, RunFault, worker};
 use std::alloc::Global;
 use std::marker::Brand;
 use std::sync::atomic::{AtomicBool, Ordering};

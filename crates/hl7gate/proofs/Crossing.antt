@@ -9,7 +9,7 @@ use Rattle.std.specs.contracts.net.SocketAddr as SocketAddr
 use Rattle.std.specs.contracts.net.TcpStream as TcpStream
 use Rattle.gw_ack.proofs.stamp.Stamp.TheSendSync as stamp
 use Rattle.gw_gate.proofs.Crossing.{Chapter-send, Gate-send}
-use Rattle.gw_lock.proofs.Crossing.{LockedGate-sync, Receipts-send}
+use Rattle.gw_run.proofs.Crossing.{LockedGate-sync, Receipts-send}
 use Rattle.hl7gate.specs.contracts.gateway.relay.Handed as Handed
 use Rattle.hl7gate.specs.contracts.gateway.relay.Handover as Handover
 use Rattle.hl7gate.specs.contracts.gateway.relay.Relay as Relay

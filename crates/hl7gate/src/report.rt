@@ -3,7 +3,7 @@ use crate::ended::Ended;
 use crate::refusals::{print_breach, print_message};
 use clap::Error;
 use clap::error::ErrorKind;
-use gw_run::Report;
+use gw_audit::Report;
 use gw_stream::RunFault;
 use std::io;
 use std::io::Write;

@@ -7,10 +7,9 @@ use crate::outcome::Outcome;
 use crate::stamps::Utc;
 use crate::tickets::Tickets;
 use gw_ack::Stamp;
+use gw_audit::{Report, join_all};
 use gw_gate::{Chapter, Event, Gate, MAX_ENTRIES};
-use gw_run::{
-    Counted, Door, LockedGate, Pause, Phase, Receipts, Report, courier, cut, join_all, worker,
-};
+use gw_run::{Counted, Door, LockedGate, Pause, Phase, Receipts, courier, cut, worker};
 use gw_session::session;
 use gw_stream::{Counts, Reads, RunFault, Sink, Writes};
 use std::alloc::{AllocError, Global};

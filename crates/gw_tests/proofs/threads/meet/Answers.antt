@@ -4,7 +4,7 @@ use denote.Param.Send.{IsSend, sendable}
 use Rattle.std.proofs.Crossing.{crosses}
 use Rattle.std.specs.declared.sync.ledger.Ledger as ledger
 use Rattle.std.proofs.sync.ledger.Share.TheSendSync as share
-use Rattle.gw_lock.proofs.Crossing.{LockedGate-sync, Receipts-send}
+use Rattle.gw_run.proofs.Crossing.{LockedGate-sync, Receipts-send}
 use Rattle.gw_tests.specs.contracts.threads.Hand as Hand
 use Rattle.gw_tests.proofs.threads.meet.Goals as goal
 

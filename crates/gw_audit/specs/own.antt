@@ -1,0 +1,3 @@
+-- The program's own words: no public contract rests on them.
+pub mod Queues
+pub mod Joins

@@ -1,5 +1,0 @@
-use Rattle.gw_run.proofs.Following.{Goes}
-use Rattle.gw_run.proofs.parts.go_on.Given as goal
-
-abbrev pub invariant-loop-place : goal.invariant-loop-place
-invariant-loop-place l = Goes l.parts l.place

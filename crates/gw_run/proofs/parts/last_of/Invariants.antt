@@ -1,6 +1,0 @@
-use Rattle.std.proofs.Common.{◌≡◌, drop}
-use Rattle.gw_run.specs.Settled.{last_end}
-use Rattle.gw_run.proofs.parts.last_of.Given as goal
-
-abbrev pub invariant-loop-part : goal.invariant-loop-part
-invariant-loop-part l = last_end 0 l.parts ≡ last_end l.last (drop l.part-index l.parts)
