@@ -1,5 +1,5 @@
 //! What a person needs of a map that a rule refuses: the file and its line, what the rule demands, and what to do.
-ghost use Rattle.std.specs.Prelude.{◌≡◌, Bool, ◌==◌, IfOk};
+ghost use Rattle.std.specs.Prelude.{◌≡◌, ◌+◌, ◌-◌, ◌^◌, min, IfOk};
 ghost use Rattle.gw_diagnostics.specs.Order.{place_of, AreInOrder};
 
 use crate::elements::Named;
@@ -125,7 +125,10 @@ fn is_alike(one: &Failure, other: &Failure) -> bool {
 
 impl Refusal<'_> {
     /// The number of the least rule that fails, and the line of the file at which it fails first.
-    pub fn rule(&self) -> (u8, u32) {
+    pub fn rule(&self) -> (u8, u32)
+        ensures rule { result.0 ≡ self.now.refused.now.least.rule }
+        ensures line { result.1 ≡ min (self.now.written.now.above + self.now.refused.now.least.mark.line) (2 ^ 32 - 1) }
+    {
         let Failure { rule, mark } = self.refused.least;
         (rule, self.written.above.saturating_add(mark.line))
     }
