@@ -335,11 +335,11 @@ impl BreachReport {
                 "messages {messages}, conforming {conforming}, breaches {breaches}"
             )?;
         }
-        let mut before = if is_json { "" } else { ": " };
+        let mut before: &[u8] = if is_json { b"" } else { b": " };
         for (spot, count) in self.spots.iter() {
-            out.write_all(before.as_bytes())?;
+            out.write_all(before)?;
             write_spot(out, is_json, *spot, *count)?;
-            before = if is_json { "," } else { ", " };
+            before = if is_json { b"," } else { b", " };
         }
         writeln!(out, "{}", if is_json { "]}" } else { "" })
     }
