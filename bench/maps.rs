@@ -1,4 +1,4 @@
-//! `maps make EXAMPLES FOLDER` makes profiles, maps and contents, the same ones each time. `maps measure PROGRAM FOLDER ROUNDS` runs `check` and `translate` over them, refuses to go on where an answer isn't the one that the rules give, and prints what they took.
+//! `maps make EXAMPLES FOLDER` makes profiles, maps and contents, the same ones each time. `maps measure PROGRAM FOLDER ROUNDS` runs `check` and `translate` over them, and `plan` over a plan of many maps. It refuses to go on where an answer isn't the one that the rules give, and prints what they took.
 //!
 //! The two are two processes, since a child's peak counts what its parent had when it began.
 mod taken;
@@ -14,6 +14,9 @@ const LINES: usize = 10_000;
 
 /// The most values and lines that one table of a profile is given here.
 const VALUES: usize = 100_000;
+
+/// The maps of the plan that is measured.
+const PLAN_MAPS: usize = 1_000;
 
 /// A map with its profiles, and message bytes that it translates, if there are some.
 struct Case {
@@ -209,6 +212,26 @@ fn lookups(count: usize, values: usize) -> Case {
     )
 }
 
+/// A plan of this many maps that copy a field of a table of this many values, all between the same two profiles.
+fn plan(maps: usize, values: usize) -> String {
+    let mut plan = String::from(
+        "plan COPIES\nreceiver PRINTER 127.0.0.1:7001\naccept version 2.5.1\naccept processing P\n",
+    );
+    for (name, turned) in [("FROM", false), ("TO", true)] {
+        write!(
+            plan,
+            "begin profile\nprofile {name}\n{}segment MSH R 1..1\nsegment ZAA R 1..1\n  field 1 R 1..1 table CODES\nstop\n",
+            table(values, turned)
+        )
+        .expect("a String takes all");
+    }
+    for n in 0..maps {
+        write!(plan, "begin map\nmap M{n} from FROM to TO\nsegment MSH from MSH\nsegment ZAA from ZAA\n  copy 1 from ZAA-1\nstop\n")
+            .expect("a String takes all");
+    }
+    plan
+}
+
 const PATIENTS: &str = "profile PATIENTS\nsegment MSH R 1..1\ngroup PATIENT R 1..*\n  segment PID R 1..1\n  group ORDER O 0..*\n    segment OBR R 1..1\n      field 1 RE 0..1\n  end\nend\n";
 
 const ORDERS: &str = "profile ORDERS\nsegment MSH R 1..1\nsegment OBR O 0..*\n  field 1 RE 0..1\n";
@@ -327,7 +350,8 @@ fn make(examples: &Path, folder: &Path) -> io::Result<()> {
         names.push_str(name);
         names.push('\n');
     }
-    fs::write(folder.join("names"), names)
+    fs::write(folder.join("names"), names)?;
+    fs::write(folder.join("plan"), plan(PLAN_MAPS, VALUES))
 }
 
 /// What a command takes over the files of a case, and how long its answer is.
@@ -372,13 +396,37 @@ fn measure(program: &str, folder: &Path, rounds: usize) -> io::Result<()> {
     Ok(())
 }
 
+/// What it takes to read the plan of many maps.
+fn measure_plan(program: &str, folder: &Path, rounds: usize) -> io::Result<()> {
+    let (plan, answer) = (folder.join("plan"), folder.join("answer"));
+    let taken = best(rounds, || {
+        run(
+            Command::new(program).arg("plan").arg(&plan),
+            Path::new("/dev/null"),
+            &answer,
+        )
+    })?;
+    if taken.status != 0 {
+        return Err(io::Error::other("plan gave another answer"));
+    }
+    println!("\n| Plan | Bytes | Read, ms | peak kB |\n|---|---|---|---|");
+    println!(
+        "| {PLAN_MAPS} maps between tables of {VALUES} values | {} | {:.0} | {} |",
+        fs::metadata(&plan)?.len(),
+        taken.seconds * 1e3,
+        taken.kilobytes
+    );
+    Ok(())
+}
+
 fn main() -> ExitCode {
     let words: Vec<String> = env::args().skip(1).collect();
     let words: Vec<&str> = words.iter().map(String::as_str).collect();
     let done = match *words.as_slice() {
         ["make", examples, folder] => make(examples.as_ref(), folder.as_ref()),
         ["measure", program, folder, rounds] => {
-            measure(program, folder.as_ref(), rounds.parse().unwrap_or(3))
+            let (folder, rounds) = (folder.as_ref(), rounds.parse().unwrap_or(3));
+            measure(program, folder, rounds).and_then(|()| measure_plan(program, folder, rounds))
         }
         _ => {
             eprintln!("maps make EXAMPLES FOLDER | maps measure PROGRAM FOLDER ROUNDS");
