@@ -1,7 +1,16 @@
 -- What the threads of a service share may be shared by them.
 use denote.RattleType.{RattleType}
-use denote.Ref.{NamedLft}
-use denote.Param.Send.{IsSend, IsSync, sendable}
+use denote.Builtin.{u64}
+use denote.Exit.{no}
+use denote.Param.{arg, param}
+use denote.Ref.{NamedLft, ShrRef}
+use denote.Param.Send.{IsSend, IsSync, arg_send, param_send, shr_send, sendable}
+use denote.Param.SendFields.{as_row_send, as_row_sync, declared_send}
+use denote.Struct.Field.{row_field}
+use denote.Struct.Tuple.{TupleAt, type_at}
+use base.Fml.{Lft}
+use mathlib.Core.List.{[], ◌∷◌}
+use mir.Syntax.{Lifetime, Sym, Ty}
 use Rattle.std.proofs.Crossing.{crosses}
 use Rattle.std.specs.declared.sync.ledger.Ledger as ledger
 use Rattle.std.proofs.sync.ledger.Share.TheSendSync as share
@@ -10,6 +19,8 @@ use Rattle.std.specs.contracts.net.TcpStream as TcpStream
 use Rattle.gw_ack.proofs.stamp.Stamp.TheSendSync as stamp
 use Rattle.gw_gate.proofs.Crossing.{Chapter-send, Gate-send}
 use Rattle.gw_run.proofs.Crossing.{LockedGate-sync, Receipts-send}
+use Rattle.hl7gate.proofs.gateway.hub.Hub.TheSendSync as hub
+use Rattle.hl7gate.specs.contracts.gateway.hub.Hub as Hub
 use Rattle.hl7gate.specs.contracts.gateway.relay.Handed as Handed
 use Rattle.hl7gate.specs.contracts.gateway.relay.Handover as Handover
 use Rattle.hl7gate.specs.contracts.gateway.relay.Relay as Relay
@@ -25,8 +36,12 @@ Tickets-send L g = search (share.the_send, crosses, sendable) depth 60 fits 5000
 Outcome-send : IsSend (Outcome.the_field).row
 Outcome-send = search (crosses, sendable) depth 60 fits 50000
 
-pub Service-sync : (a : NamedLft) (L R : RattleType) (g : ledger.Ghosts L.Denot) → IsSync R → IsSync (Service.the_field a L R g).row
-Service-sync a L R g s = search (LockedGate-sync, Receipts-send, Chapter-send, Tickets-send, Outcome-send, stamp.the_sync, s, crosses, sendable) depth 60 fits 50000
+Service-field : (a : NamedLft) (L R : RattleType) (g : ledger.Ghosts L.Denot) → IsSync R → IsSync (Service.the_field a L R g).row
+Service-field a L R g s = search (LockedGate-sync, Receipts-send, Chapter-send, Tickets-send, Outcome-send, stamp.the_sync, s, crosses, sendable) depth 60 fits 50000
+
+-- a reference to it, as a closure captures it
+pub Service-shared : (ℓ : Lifetime) (κ : Lft) (a : NamedLft) (L R : RattleType) (g : ledger.Ghosts L.Denot) → IsSync R → IsSend (ShrRef ℓ κ (Service.the_row a L R g))
+Service-shared ℓ κ a L R g s = shr_send ℓ κ (Service.the_row a L R g) (as_row_sync (Service.the_field a L R g) (Service-field a L R g s))
 
 Stream-send : IsSend (TcpStream.the_field).row
 Stream-send = search (crosses, sendable) depth 60 fits 50000
@@ -34,11 +49,17 @@ Stream-send = search (crosses, sendable) depth 60 fits 50000
 Address-send : IsSend (SocketAddr.the_field).row
 Address-send = search (crosses, sendable) depth 60 fits 50000
 
-pub Connection-send : IsSend (Connection.the_field).row
-Connection-send = search (Stream-send, Address-send, crosses, sendable) depth 60 fits 50000
+Connection-field : IsSend (Connection.the_field).row
+Connection-field = search (Stream-send, Address-send, crosses, sendable) depth 60 fits 50000
 
-pub Line-send : (a : NamedLft) → IsSend (Line.the_field a).row
-Line-send a = search (Stream-send, crosses, sendable) depth 60 fits 50000
+pub Connection-send : IsSend Connection.the_row
+Connection-send = as_row_send Connection.the_field Connection-field
+
+Line-field : (a : NamedLft) → IsSend (Line.the_field a).row
+Line-field a = search (Stream-send, crosses, sendable) depth 60 fits 50000
+
+pub Line-send : (a : NamedLft) → IsSend (Line.the_row a)
+Line-send a = as_row_send (Line.the_field a) (Line-field a)
 
 -- ---- what a round of the gateway hands on
 
@@ -48,5 +69,25 @@ Handed-send = search (Gate-send, crosses, sendable) depth 60 fits 50000
 Handover-send : IsSend (Handover.the_field).row
 Handover-send = search (Handed-send, Gate-send, crosses, sendable) depth 60 fits 50000
 
-pub Relay-sync : IsSync (Relay.the_field).row
-Relay-sync = search (Handover-send, crosses, sendable) depth 60 fits 50000
+Relay-field : IsSync (Relay.the_field).row
+Relay-field = search (Handover-send, crosses, sendable) depth 60 fits 50000
+
+pub Relay-shared : (ℓ : Lifetime) (κ : Lft) → IsSend (ShrRef ℓ κ Relay.the_row)
+Relay-shared ℓ κ = shr_send ℓ κ Relay.the_row (as_row_sync Relay.the_field Relay-field)
+
+-- `&Hub`, by what its fields are
+pub Hub-shared : (ℓ : Lifetime) (κ : Lft) (a : NamedLft) (R : RattleType) → IsSync R → IsSend (ShrRef ℓ κ (Hub.the_row a R))
+Hub-shared ℓ κ a R s = shr_send ℓ κ (Hub.the_row a R) (search (hub.the_sync, s))
+
+-- ---- a closure may be sent where what it captures may
+
+pub number-send : IsSend u64
+number-send = search sendable
+
+pub sent-two : (δ : Ty) (ν : Sym) (A B : RattleType) → IsSend A → IsSend B → IsSend (param 1 (arg δ no (TupleAt ν (A ∷ B ∷ []))))
+sent-two δ ν A B a b = param_send 1 (arg δ no (TupleAt ν (A ∷ B ∷ []))) (arg_send δ no (TupleAt ν (A ∷ B ∷ []))
+    (declared_send (type_at ν (A ∷ B ∷ [])) (as_row_send (row_field A) a, (as_row_send (row_field B) b, tt))))
+
+pub sent-three : (δ : Ty) (ν : Sym) (A B C : RattleType) → IsSend A → IsSend B → IsSend C → IsSend (param 1 (arg δ no (TupleAt ν (A ∷ B ∷ C ∷ []))))
+sent-three δ ν A B C a b c = param_send 1 (arg δ no (TupleAt ν (A ∷ B ∷ C ∷ []))) (arg_send δ no (TupleAt ν (A ∷ B ∷ C ∷ []))
+    (declared_send (type_at ν (A ∷ B ∷ C ∷ [])) (as_row_send (row_field A) a, (as_row_send (row_field B) b, (as_row_send (row_field C) c, tt)))))

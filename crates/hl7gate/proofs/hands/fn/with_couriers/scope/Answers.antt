@@ -1,10 +1,9 @@
-use denote.Param.Send.{sendable}
-use Rattle.std.proofs.Crossing.{crosses}
-use Rattle.hl7gate.proofs.Crossing.{Service-sync, Line-send}
+use denote.Param.{param}
+use Rattle.hl7gate.proofs.Crossing.{Line-send, Service-shared, sent-two}
 use Rattle.hl7gate.proofs.hands.fn.with_couriers.scope.Goals as goal
 
 pub spawn-requires-send-F : goal.spawn-requires-send-F
-spawn-requires-send-F g c κs within = search (Service-sync, c, crosses, sendable) depth 60 fits 50000
+spawn-requires-send-F g c κs within = sent-two _ _ _ _ (Service-shared _ _ _ (param 0 g.row.L) _ _ c.requires.1) c.requires.2
 
 pub spawn-requires-in-loop-line-send-F : goal.spawn-requires-in-loop-line-send-F
-spawn-requires-in-loop-line-send-F g c κs within = search (Service-sync, Line-send, c, crosses, sendable) depth 60 fits 50000
+spawn-requires-in-loop-line-send-F g c κs within = sent-two _ _ _ _ (Service-shared _ _ _ (param 0 g.row.L) _ _ c.requires.1) (Line-send _)

@@ -1,7 +1,6 @@
-use denote.Param.Send.{sendable}
-use Rattle.std.proofs.Crossing.{crosses}
-use Rattle.hl7gate.proofs.Crossing.{Service-sync}
+use denote.Param.{param}
+use Rattle.hl7gate.proofs.Crossing.{Service-shared, number-send, sent-two}
 use Rattle.hl7gate.proofs.hands.fn.with_workers.scope.Goals as goal
 
 pub spawn-requires-send-F : goal.spawn-requires-send-F
-spawn-requires-send-F g c κs within = search (Service-sync, c, crosses, sendable) depth 60 fits 50000
+spawn-requires-send-F g c κs within = sent-two _ _ _ _ (Service-shared _ _ _ (param 0 g.row.L) _ _ c.requires.1) number-send
