@@ -1,17 +1,11 @@
 //! The time stamps of answers.
 use gw_ack::Stamp;
-use gw_civil::FromCivil;
-use jiff::Timestamp;
-use jiff::tz::Offset;
+use gw_civil::utc_now;
 use std::time::Clock;
 
 /// Now in UTC, or fourteen zeros where the clock gives no year from 0 to 9999.
 fn now<R: Clock>(clock: &R) -> Option<Stamp> {
-    let zeros = Stamp::from_digits(b"00000000000000");
-    let Ok(at) = Timestamp::now(clock) else {
-        return zeros;
-    };
-    Stamp::from_civil(&Offset::UTC.to_datetime(at)).or(zeros)
+    utc_now(clock).or(Stamp::from_digits(b"00000000000000"))
 }
 
 /// The stamp that the words give, else now. None where the digits aren't fourteen.
