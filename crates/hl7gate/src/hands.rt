@@ -1,14 +1,13 @@
 //! The threads of a service, each within the one that waits for it.
 ghost use Rattle.std.specs.Thread.{IsSend, IsSync};
 
+use crate::runtime::Runtime;
 use crate::swaps::swap_all;
 use crate::threads::{Connection, Line, Service};
 use gw_run::Phase;
 use gw_stream::RunFault;
-use std::fs::File;
-use std::io::{Eprint, Print, Read};
+use std::io::{Eprint, Read};
 use std::net::TcpListener;
-use std::rt::Files;
 use std::sync::Wait;
 use std::sync::ledger::Ledger;
 use std::thread;
@@ -46,7 +45,7 @@ fn take<L: Ledger, R: Wait + Clock + Eprint + AllocGlobal>(
 }
 
 /// Accepts `sessions` connections, a thread each, and waits for their end. One whose thread can't be started is served here.
-fn take_sessions<L: Ledger + Send, R: Threads + Wait + Clock + Eprint + AllocGlobal + Sync>(
+fn take_sessions<L: Ledger + Send, R: Runtime + Threads + Wait>(
     service: &Service<'_, L, R>,
     listener: TcpListener,
     sessions: u64,
@@ -75,7 +74,7 @@ fn take_sessions<L: Ledger + Send, R: Threads + Wait + Clock + Eprint + AllocGlo
 }
 
 /// Has workers work, a thread each, while connections are taken, and waits for their end.
-fn with_workers<L: Ledger + Send, R: Threads + Wait + Clock + Eprint + AllocGlobal + Sync>(
+fn with_workers<L: Ledger + Send, R: Runtime + Threads + Wait>(
     service: &Service<'_, L, R>,
     listener: TcpListener,
     sizes: Sizes,
@@ -105,12 +104,7 @@ fn with_workers<L: Ledger + Send, R: Threads + Wait + Clock + Eprint + AllocGlob
 }
 
 /// Has plans swapped in and couriers carry, a thread each, while the others work, and waits for their end.
-pub(crate) fn with_couriers<
-    L: Ledger + Send,
-    R: Threads + Wait + Clock + Files<File = File, Dir = D> + Print + Eprint + AllocGlobal + Sync,
-    D: Read + Drop + Send + Sync,
-    I: Read + Drop + Send,
->(
+pub(crate) fn with_couriers<L: Ledger + Send, R: Runtime + Threads + Wait, I: Read + Drop + Send>(
     service: &Service<'_, L, R>,
     paths: I,
     lines: Vec<Line<'_>>,
@@ -121,10 +115,10 @@ pub(crate) fn with_couriers<
         thread::scope_env(),
         service.rt,
         |scope|
-            requires { IsSend L.row × IsSync R.row × IsSend I.row × IsSend D.row × IsSync D.row }
+            requires { IsSend L.row × IsSync R.row × IsSend I.row }
         {
             let swap = move ||
-                requires { IsSend L.row × IsSync R.row × IsSend I.row × IsSend D.row × IsSync D.row }
+                requires { IsSend L.row × IsSync R.row × IsSend I.row }
             { swap_all(service, paths) };
             if scope.spawn(swap).is_err() {
                 service.give_up();

@@ -22,6 +22,7 @@ mod program;
 mod progress;
 mod refusals;
 mod report;
+mod runtime;
 mod sample;
 mod serve;
 mod stamps;
@@ -37,16 +38,13 @@ use gateway::{gateway, send};
 use heap::keep_freed;
 use program::command;
 use report::{USAGE, print_unread_words, print_words, status_of};
+use runtime::Runtime;
 use serve::serving;
-use std::fs::File;
-use std::io::{Eprint, IsTerminal, Print, Read, Write};
+use std::io::{IsTerminal, Read, Write};
 use std::net::{Net, TcpListener, TcpStream};
 use std::process::ExitCode;
-use std::random::RandomSource;
-use std::rt::Files;
 use std::sync::Wait;
 use std::thread::Threads;
-use std::time::Clock;
 use streams::open_closed;
 
 /// Whether a command takes the network, or threads.
@@ -57,19 +55,7 @@ fn is_networked(name: &str) -> bool {
 /// Does the command of these words, and answers the status: 0 done, 1 refused, 2 usage, 3 a fault of a device, a frame or a run, 4 allocation failure.
 fn done<
     'a,
-    R: Net<Stream = TcpStream, Listener = TcpListener>
-        + Threads
-        + Wait
-        + Clock
-        + Files<File = File, Dir = D>
-        + Print
-        + Eprint
-        + RandomSource
-        + AllocGlobal
-        + Sync
-        + Clone
-        + Drop,
-    D: Read + Drop + Send + Sync,
+    R: Runtime + Threads + Wait + Net<Stream = TcpStream, Listener = TcpListener>,
     I: Read + Drop + Send,
     O: Write + IsTerminal,
     E: Write + IsTerminal,

@@ -5,6 +5,7 @@ use crate::ended::Ended;
 use crate::hands::{Sizes, with_couriers};
 use crate::plans::read_plan;
 use crate::report::{print_if_full, print_report};
+use crate::runtime::Runtime;
 use crate::stamps::stamp_of;
 use crate::threads::{Line, PARTS, Served, Service};
 use clap::ArgMatches;
@@ -12,16 +13,12 @@ use gw_ack::Stamp;
 use gw_gate::Gate;
 use gw_plan::{Plan, Receiver};
 use gw_stream::RunFault;
-use std::alloc::AllocError;
-use std::fs::File;
-use std::io::{Eprint, Print, Read, Write};
+use std::io::{Eprint, Read, Write};
 use std::marker::Brand;
 use std::net::{Net, TcpListener, TcpStream};
-use std::rt::Files;
 use std::sync::ledger::{Blank, Ledger};
 use std::sync::{Arc, Wait};
 use std::thread::Threads;
-use std::time::Clock;
 
 /// The number that a word gives: from 1 to 1,000, in decimal digits.
 fn count<'a>(words: &ArgMatches<'a>, name: &'static str) -> Result<u64, Ended<'a>> {
@@ -90,16 +87,7 @@ fn connect_all<'p, R: Net<Stream = TcpStream, Listener = TcpListener> + Eprint +
 /// Serves under a plan, and under those that are swapped in, until the stated number of connections has ended and no path comes any more.
 fn serve_with<
     L: Ledger + Send,
-    R: Net<Stream = TcpStream, Listener = TcpListener>
-        + Threads
-        + Wait
-        + Clock
-        + Files<File = File, Dir = D>
-        + Print
-        + Eprint
-        + AllocGlobal
-        + Sync,
-    D: Read + Drop + Send + Sync,
+    R: Runtime + Threads + Wait + Net<Stream = TcpStream, Listener = TcpListener>,
     I: Read + Drop + Send,
 >(
     rt: &R,
@@ -142,16 +130,7 @@ pub(crate) fn listen<'a, R: Net<Stream = TcpStream, Listener = TcpListener> + Ep
 /// Serves under the plan of the file PLAN at ADDRESS, and prints what the gate did.
 fn serve<
     'a,
-    R: Net<Stream = TcpStream, Listener = TcpListener>
-        + Threads
-        + Wait
-        + Clock
-        + Files<File = File, Dir = D>
-        + Print
-        + Eprint
-        + AllocGlobal
-        + Sync,
-    D: Read + Drop + Send + Sync,
+    R: Runtime + Threads + Wait + Net<Stream = TcpStream, Listener = TcpListener>,
     I: Read + Drop + Send,
 >(rt: &R, words: &ArgMatches<'a>, paths: I) -> Result<Served, Ended<'a>> {
     let sizes = Sizes {
@@ -164,23 +143,14 @@ fn serve<
     let plan = Arc::new(rt.alloc(), read_plan(rt, words)?)?;
     let listener = listen(rt, words)?;
     let blank = Blank::new(PARTS);
-    let served = serve_with::<Brand, _, _, _>(rt, blank, &plan, start, paths, listener, sizes)?;
+    let served = serve_with::<Brand, _, _>(rt, blank, &plan, start, paths, listener, sizes)?;
     Ok(served)
 }
 
 /// Serves as the words say, and answers the status.
 pub(crate) fn serving<
     'a,
-    R: Net<Stream = TcpStream, Listener = TcpListener>
-        + Threads
-        + Wait
-        + Clock
-        + Files<File = File, Dir = D>
-        + Print
-        + Eprint
-        + AllocGlobal
-        + Sync,
-    D: Read + Drop + Send + Sync,
+    R: Runtime + Threads + Wait + Net<Stream = TcpStream, Listener = TcpListener>,
     I: Read + Drop + Send,
     O: Write,
     E: Write,

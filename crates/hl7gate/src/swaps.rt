@@ -4,6 +4,7 @@ use crate::ended::Ended;
 use crate::files::read_text;
 use crate::plans::refused;
 use crate::report::tell;
+use crate::runtime::Runtime;
 use crate::threads::Service;
 use gw_run::{SwapFault, swap};
 use gw_stream::RunFault;
@@ -109,7 +110,7 @@ pub(crate) fn swap_or_lines<L: Ledger, R: Wait + Files + Eprint + AllocGlobal>(
 }
 
 /// Takes each of these lines in order, up to their end. Where they can't be read on, standard error says so.
-pub(crate) fn swap_all<L: Ledger, R: Wait + Files + Print + Eprint + AllocGlobal, I: Read + Drop>(
+pub(crate) fn swap_all<L: Ledger, R: Runtime + Wait, I: Read + Drop>(
     service: &Service<'_, L, R>,
     paths: I,
 ) {
@@ -119,7 +120,7 @@ pub(crate) fn swap_all<L: Ledger, R: Wait + Files + Print + Eprint + AllocGlobal
     }
 }
 
-fn swap_lines<L: Ledger, R: Wait + Files + Print + Eprint + AllocGlobal, I: Read + Drop>(
+fn swap_lines<L: Ledger, R: Runtime + Wait, I: Read + Drop>(
     service: &Service<'_, L, R>,
     paths: I,
 ) -> Result<(), RunFault> {
@@ -156,7 +157,7 @@ fn read_next<I: Read + Drop>(
     }
 }
 
-fn swap_with<L: Ledger, R: Wait + Files + Print + Eprint + AllocGlobal, I: Read + Drop>(
+fn swap_with<L: Ledger, R: Runtime + Wait, I: Read + Drop>(
     service: &Service<'_, L, R>,
     door: &mut Reporter<'_, '_, L, R>,
     paths: I,
@@ -186,7 +187,7 @@ fn path_of(line: &str) -> &str {
 }
 
 /// Does what a line says: `cut` closes the journal, and any other is the path of a plan to be swapped in.
-fn take_line<L: Ledger, R: Wait + Files + Print + Eprint + AllocGlobal>(
+fn take_line<L: Ledger, R: Runtime + Wait>(
     service: &Service<'_, L, R>,
     door: &mut Reporter<'_, '_, L, R>,
     line: &str,
@@ -198,11 +199,7 @@ fn take_line<L: Ledger, R: Wait + Files + Print + Eprint + AllocGlobal>(
 }
 
 /// Swaps in the plan of a file, and prints the outcome.
-fn swap_one<L: Ledger, R: Wait + Files + Print + Eprint + AllocGlobal>(
-    door: &mut Reporter<'_, '_, L, R>,
-    rt: &R,
-    path: &str,
-) {
+fn swap_one<L: Ledger, R: Runtime + Wait>(door: &mut Reporter<'_, '_, L, R>, rt: &R, path: &str) {
     match swap_file(door, rt, path) {
         Ok(version) => {
             let _ = println!(rt; "swapped {version}");

@@ -17,6 +17,7 @@ use crate::gateway::rounds::rounds;
 use crate::gateway::senders::accept_all;
 use crate::plans::read_plan;
 use crate::report::DONE;
+use crate::runtime::Runtime;
 use crate::serve::{count_or, listen};
 use crate::stamps::stamp_of;
 use clap::ArgMatches;
@@ -24,12 +25,9 @@ use gw_ack::Stamp;
 use gw_gate::Gate;
 use gw_plan::Plan;
 use gw_stream::RunFault;
-use std::fs::File;
-use std::io::{Eprint, Read};
+use std::io::Eprint;
 use std::net::{Net, SocketAddr, TcpListener, TcpStream};
 use std::os::unix::net::{UnixListener, UnixStream};
-use std::random::RandomSource;
-use std::rt::Files;
 use std::sync::{Arc, Wait};
 use std::thread;
 use std::thread::Threads;
@@ -68,14 +66,11 @@ struct Ports {
 
 impl Ports {
     /// Listens at the folder's socket and at the addresses of the words.
-    fn open<
-        'a,
-        R: Net<Stream = TcpStream, Listener = TcpListener>
-            + Files<File = File>
-            + Eprint
-            + RandomSource
-            + AllocGlobal,
-    >(rt: &R, words: &ArgMatches<'a>, folder: &Folder) -> Result<Self, Ended<'a>> {
+    fn open<'a, R: Runtime + Net<Stream = TcpStream, Listener = TcpListener>>(
+        rt: &R,
+        words: &ArgMatches<'a>,
+        folder: &Folder,
+    ) -> Result<Self, Ended<'a>> {
         let path = control_path(rt.alloc(), &folder.path)?;
         let Ok(control) = control::listen(rt, &path) else {
             return Err(Ended::Unwritten { file: path });
@@ -128,19 +123,7 @@ fn watch_all<R: Wait + Clock + Eprint + AllocGlobal>(hub: &Hub<'_, R>) {
 }
 
 /// Goes on with these receivers, until a plan is to be installed: the gate of the next round. An error is that it was stopped, or can't go on: that is the fault.
-fn go_on<
-    R: Net<Stream = TcpStream, Listener = TcpListener>
-        + Threads
-        + Wait
-        + Clock
-        + Files<File = File, Dir = D>
-        + Eprint
-        + AllocGlobal
-        + Sync
-        + Clone
-        + Drop,
-    D: Read + Drop + Send + Sync,
->(
+fn go_on<R: Runtime + Threads + Wait + Net<Stream = TcpStream, Listener = TcpListener>>(
     hub: &Hub<'_, R>,
     begun: (&mut Numbers, Gate),
     control: &UnixListener,
@@ -155,7 +138,7 @@ fn go_on<
         thread::scope_env(),
         hub.rt,
         |scope|
-            requires { IsSync R.row × IsSend D.row × IsSync D.row }
+            requires { IsSync R.row }
         {
             let look = move ||
                 requires { IsSync R.row }
@@ -164,7 +147,7 @@ fn go_on<
                 hub.exit();
             };
             let hear = move ||
-                requires { IsSync R.row × IsSend D.row × IsSync D.row }
+                requires { IsSync R.row }
             {
                 attend_all(hub, control);
                 hub.exit();
@@ -179,7 +162,7 @@ fn go_on<
                 && scope.spawn(show).is_ok();
             for number in 0..hub.spools.len() {
                 let send = move ||
-                    requires { IsSync R.row × IsSend D.row × IsSync D.row }
+                    requires { IsSync R.row }
                 {
                     forward_all(hub, number);
                     hub.exit();
@@ -199,19 +182,7 @@ fn go_on<
 }
 
 /// Goes on under one plan after the other, until it is stopped, or can't go on: that is the fault.
-fn go_on_for_ever<
-    R: Net<Stream = TcpStream, Listener = TcpListener>
-        + Threads
-        + Wait
-        + Clock
-        + Files<File = File, Dir = D>
-        + Eprint
-        + AllocGlobal
-        + Sync
-        + Clone
-        + Drop,
-    D: Read + Drop + Send + Sync,
->(
+fn go_on_for_ever<R: Runtime + Threads + Wait + Net<Stream = TcpStream, Listener = TcpListener>>(
     hub: Hub<'_, R>,
     begun: (Numbers, Gate),
     control: &UnixListener,
@@ -253,19 +224,12 @@ fn wake<R: Net<Stream = TcpStream, Listener = TcpListener>>(rt: &R, at: Option<S
 }
 
 /// Takes senders in, while it goes on.
-fn take_in<
-    R: Net<Stream = TcpStream, Listener = TcpListener>
-        + Threads
-        + Wait
-        + Clock
-        + Files<File = File, Dir = D>
-        + Eprint
-        + AllocGlobal
-        + Sync
-        + Clone
-        + Drop,
-    D: Read + Drop + Send + Sync,
->(hub: Hub<'_, R>, begun: (Numbers, Gate), ports: Ports, sizes: Sizes) -> Option<RunFault> {
+fn take_in<R: Runtime + Threads + Wait + Net<Stream = TcpStream, Listener = TcpListener>>(
+    hub: Hub<'_, R>,
+    begun: (Numbers, Gate),
+    ports: Ports,
+    sizes: Sizes,
+) -> Option<RunFault> {
     let (rt, lobby) = (hub.rt, hub.lobby);
     let Ports {
         senders,
@@ -278,7 +242,7 @@ fn take_in<
         thread::scope_env(),
         rt,
         |scope|
-            requires { IsSync R.row × IsSend D.row × IsSync D.row }
+            requires { IsSync R.row }
         {
             let accept = move ||
                 requires { IsSync R.row }
@@ -295,21 +259,7 @@ fn take_in<
 }
 
 /// Keeps what it accepts in this folder, under a plan, at ADDRESS.
-fn keep_in<
-    'a,
-    R: Net<Stream = TcpStream, Listener = TcpListener>
-        + Threads
-        + Wait
-        + Clock
-        + Files<File = File, Dir = D>
-        + Eprint
-        + RandomSource
-        + AllocGlobal
-        + Sync
-        + Clone
-        + Drop,
-    D: Read + Drop + Send + Sync,
->(
+fn keep_in<'a, R: Runtime + Threads + Wait + Net<Stream = TcpStream, Listener = TcpListener>>(
     rt: &R,
     words: &ArgMatches<'a>,
     folder: &Folder,
@@ -328,18 +278,7 @@ fn keep_in<
 /// Keeps what it accepts in FOLDER, under the plan of the file PLAN, at ADDRESS, and answers the status.
 pub(crate) fn gateway<
     'a,
-    R: Net<Stream = TcpStream, Listener = TcpListener>
-        + Threads
-        + Wait
-        + Clock
-        + Files<File = File, Dir = D>
-        + Eprint
-        + RandomSource
-        + AllocGlobal
-        + Sync
-        + Clone
-        + Drop,
-    D: Read + Drop + Send + Sync,
+    R: Runtime + Threads + Wait + Net<Stream = TcpStream, Listener = TcpListener>,
 >(rt: &R, words: &ArgMatches<'a>) -> Result<u8, Ended<'a>> {
     let sizes = sizes_of(words)?;
     let Some(start) = stamp_of(rt, None) else {

@@ -3,15 +3,16 @@ use crate::gateway::hub::Hub;
 use crate::gateway::install::{Ready, ready_or_lines};
 use crate::gateway::resend::resend;
 use crate::gateway::status;
+use crate::runtime::Runtime;
 use std::alloc::{AllocError, Global};
 use std::fs::{File, Permissions};
-use std::io::{Eprint, ErrorKind, Read, Write};
+use std::io::{ErrorKind, Read, Write};
 use std::net::Net;
 use std::os::unix::fs::PermissionsExt;
 use std::os::unix::net::{UnixListener, UnixStream};
 use std::rt::Files;
 use std::sync::Wait;
-use std::time::{Clock, Duration};
+use std::time::Duration;
 use std::{fs, io};
 
 /// The most bytes of a line.
@@ -61,10 +62,7 @@ fn hold<R: Wait + AllocGlobal>(
 }
 
 /// The answer to a line.
-fn answer<R: Wait + Clock + Files<File = File> + Eprint + AllocGlobal>(
-    hub: &Hub<'_, R>,
-    line: &str,
-) -> Result<String, AllocError> {
+fn answer<R: Runtime + Wait>(hub: &Hub<'_, R>, line: &str) -> Result<String, AllocError> {
     let alloc = hub.rt.alloc();
     let (word, rest) = line.split_once(' ').unwrap_or((line, ""));
     match (word, rest) {
@@ -93,7 +91,7 @@ fn read_line<R: AllocGlobal>(rt: &R, stream: &UnixStream) -> io::Result<String> 
 }
 
 /// Has the plan of this file installed: who asked is answered when it is. Where it can't be, the answer says why.
-fn ask_install<R: Wait + Clock + Files<File = File> + Eprint + AllocGlobal + Clone + Drop>(
+fn ask_install<R: Runtime + Wait>(
     hub: &Hub<'_, R>,
     path: &str,
     stream: UnixStream,
@@ -112,10 +110,7 @@ fn ask_install<R: Wait + Clock + Files<File = File> + Eprint + AllocGlobal + Clo
 }
 
 /// Answers one connection.
-fn attend<R: Wait + Clock + Files<File = File> + Eprint + AllocGlobal + Clone + Drop>(
-    hub: &Hub<'_, R>,
-    stream: UnixStream,
-) -> io::Result<()> {
+fn attend<R: Runtime + Wait>(hub: &Hub<'_, R>, stream: UnixStream) -> io::Result<()> {
     stream.set_read_timeout(Some(Duration::from_secs(PATIENCE)))?;
     stream.set_write_timeout(Some(Duration::from_secs(PATIENCE)))?;
     let line = read_line(hub.rt, &stream)?;
@@ -129,9 +124,7 @@ fn attend<R: Wait + Clock + Files<File = File> + Eprint + AllocGlobal + Clone + 
 }
 
 /// Answers one connection after another, until the gateway ends, or its receivers change.
-pub(crate) fn attend_all<
-    R: Wait + Clock + Files<File = File> + Eprint + AllocGlobal + Clone + Drop,
->(hub: &Hub<'_, R>, listener: &UnixListener) {
+pub(crate) fn attend_all<R: Runtime + Wait>(hub: &Hub<'_, R>, listener: &UnixListener) {
     for _ in hub.rt.forever() {
         if let Ok((stream, _peer)) = listener.accept() {
             let _ = attend(hub, stream);

@@ -1,7 +1,7 @@
 //! The folder of a gateway, which one process at a time has.
 use crate::ended::Ended;
 use gw_stream::RunFault;
-use std::alloc::{AllocError, Global};
+use std::alloc::Global;
 use std::fs::{File, OpenOptions};
 use std::io::ErrorKind;
 use std::os::unix::fs::{FileExt, OpenOptionsExt};

@@ -3,16 +3,14 @@ use crate::gateway::hub::{Destination, Hub};
 use crate::gateway::links::{Answers, Records, connect};
 use crate::gateway::outgoing::{Emptying, Outgoing};
 use crate::gateway::refused::Refused;
+use crate::runtime::Runtime;
 use gw_forward::{Ended, ForwardFault, Outbox, StoreFault, forward};
 use gw_stream::{Reads, RunFault, Writes};
 use std::cell::Cell;
-use std::fs::File;
-use std::io::Eprint;
 use std::net::{Net, TcpListener, TcpStream};
-use std::rt::Files;
 use std::sync::Wait;
 use std::thread;
-use std::time::{Clock, Duration};
+use std::time::Duration;
 
 /// The most seconds between two tries.
 const LONGEST: u64 = 60;
@@ -36,14 +34,7 @@ struct Forwarder<'a, 'f, R: Wait> {
     pause: u64,
 }
 
-impl<
-    R: Wait
-        + Clock
-        + Net<Stream = TcpStream, Listener = TcpListener>
-        + Files<File = File>
-        + Eprint
-        + AllocGlobal,
-> Forwarder<'_, '_, R> {
+impl<R: Runtime + Wait + Net<Stream = TcpStream, Listener = TcpListener>> Forwarder<'_, '_, R> {
     // Waits before the next try; each time twice as long.
     fn wait(&mut self) {
         for _fifth in 0..self.pause.saturating_mul(5) {
@@ -152,15 +143,12 @@ impl<
 }
 
 /// Sends a receiver what waits for it, until the gateway ends. `sent` is whether bytes of the first message may have been sent.
-fn forward_to<
-    'f,
-    R: Wait
-        + Clock
-        + Net<Stream = TcpStream, Listener = TcpListener>
-        + Files<File = File>
-        + Eprint
-        + AllocGlobal,
->(hub: &Hub<'f, R>, outgoing: &Outgoing<'f>, to: &Destination, sent: &Cell<bool>) {
+fn forward_to<'f, R: Runtime + Wait + Net<Stream = TcpStream, Listener = TcpListener>>(
+    hub: &Hub<'f, R>,
+    outgoing: &Outgoing<'f>,
+    to: &Destination,
+    sent: &Cell<bool>,
+) {
     let refused = Refused::new(hub.folder, &to.refused);
     let mut outbox = Emptying::new(hub.rt, outgoing, &to.name, refused, sent);
     let mut forwarder = Forwarder {
@@ -174,14 +162,10 @@ fn forward_to<
 }
 
 /// Sends the receiver of this number what waits for it, until the gateway ends.
-pub(crate) fn forward_all<
-    R: Wait
-        + Clock
-        + Net<Stream = TcpStream, Listener = TcpListener>
-        + Files<File = File>
-        + Eprint
-        + AllocGlobal,
->(hub: &Hub<'_, R>, number: usize) {
+pub(crate) fn forward_all<R: Runtime + Wait + Net<Stream = TcpStream, Listener = TcpListener>>(
+    hub: &Hub<'_, R>,
+    number: usize,
+) {
     let (Some(outgoing), Some(to)) = (hub.spools.get(number), hub.destination(number)) else {
         return;
     };

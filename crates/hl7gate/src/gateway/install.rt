@@ -4,12 +4,13 @@ use crate::files::read_text;
 use crate::gateway::hub::Hub;
 use crate::gateway::receivers::{Prepared, prepare};
 use crate::plans::refused;
+use crate::runtime::Runtime;
 use crate::swaps::{Unswapped, lines_of};
 use gw_gate::{Gate, Start};
 use gw_plan::Plan;
 use gw_stream::RunFault;
 use std::fs::File;
-use std::io::{Eprint, Write};
+use std::io::Write;
 use std::os::unix::net::UnixStream;
 use std::rt::Files;
 use std::sync::{Arc, Wait};
@@ -42,7 +43,7 @@ fn parse<'a, R: AllocGlobal>(rt: &R, path: &'a str, text: &[u8]) -> Result<Plan,
 }
 
 /// Makes the plan of a file ready: its text, and its receivers.
-fn make_ready<'f, 'a, R: Wait + Clock + Files<File = File> + Eprint + AllocGlobal + Clone + Drop>(
+fn make_ready<'f, 'a, R: Runtime + Wait>(
     hub: &Hub<'f, R>,
     path: &'a str,
 ) -> Result<(Vec<u8>, Prepared<'f>), Ended<'a>> {
@@ -53,10 +54,10 @@ fn make_ready<'f, 'a, R: Wait + Clock + Files<File = File> + Eprint + AllocGloba
 }
 
 /// Makes the plan of a file ready: its text, and its receivers; or the lines that say why it can't be installed.
-pub(crate) fn ready_or_lines<
-    'f,
-    R: Wait + Clock + Files<File = File> + Eprint + AllocGlobal + Clone + Drop,
->(hub: &Hub<'f, R>, path: &str) -> Result<(Vec<u8>, Prepared<'f>), Vec<u8>> {
+pub(crate) fn ready_or_lines<'f, R: Runtime + Wait>(
+    hub: &Hub<'f, R>,
+    path: &str,
+) -> Result<(Vec<u8>, Prepared<'f>), Vec<u8>> {
     match make_ready(hub, path) {
         Ok(ready) => Ok(ready),
         Err(ended) => Err(lines_of(hub.rt, path, &Unswapped::Text(ended))),

@@ -5,16 +5,16 @@ use crate::gateway::folder::{Folder, unwritten, write_file};
 use crate::gateway::hub::{Destination, Hub, number_in};
 use crate::gateway::outgoing::Outgoing;
 use crate::gateway::row::{Place, RowFault};
+use crate::runtime::Runtime;
 use gw_plan::Plan;
 use gw_spool::SpoolFault;
 use gw_stream::RunFault;
 use std::alloc::{AllocError, Global};
 use std::fs::{File, read_dir};
 use std::io;
-use std::io::{Eprint, Read};
+use std::io::Read;
 use std::rt::Files;
 use std::sync::Wait;
-use std::time::Clock;
 
 /// The file of a spool's folder that has its receiver's address, and the most bytes that are read of it.
 const ADDRESS: &str = "address";
@@ -50,7 +50,7 @@ fn unopened<'a>(alloc: Global, fault: RowFault, folder: &str) -> Ended<'a> {
 }
 
 /// The spool of a receiver. Its name is letters, digits and `_`, so it lies in the folder and nowhere else.
-fn open_spool<'f, 'a, R: Files<File = File> + Clock + Eprint + AllocGlobal + Clone + Drop>(
+fn open_spool<'f, 'a, R: Runtime>(
     rt: &R,
     folder: &'f Folder,
     name: &[u8],
@@ -127,7 +127,7 @@ fn destination_of(
 }
 
 /// The receiver of this name that is gone from the plan, where its address was kept and something waits for it.
-fn open_gone<'f, 'a, R: Files<File = File> + Clock + Wait + Eprint + AllocGlobal + Clone + Drop>(
+fn open_gone<'f, 'a, R: Runtime + Wait>(
     rt: &R,
     folder: &'f Folder,
     name: &str,
@@ -162,10 +162,11 @@ fn names_in<R: Files + AllocGlobal + Clone + Drop>(
 
 impl<'f> Receivers<'f> {
     /// The receivers of a plan, and those that are gone from it.
-    pub(crate) fn open<
-        'a,
-        R: Files<File = File> + Clock + Wait + Eprint + AllocGlobal + Clone + Drop,
-    >(rt: &R, folder: &'f Folder, plan: &Plan) -> Result<Self, Ended<'a>> {
+    pub(crate) fn open<'a, R: Runtime + Wait>(
+        rt: &R,
+        folder: &'f Folder,
+        plan: &Plan,
+    ) -> Result<Self, Ended<'a>> {
         let alloc = rt.alloc();
         let mut receivers = Receivers {
             destinations: Vec::new(alloc),
@@ -231,11 +232,10 @@ impl<'f> Receivers<'f> {
 }
 
 /// Opens what the receivers of a plan need beside what the gateway has open.
-pub(crate) fn prepare<
-    'f,
-    'a,
-    R: Wait + Clock + Files<File = File> + Eprint + AllocGlobal + Clone + Drop,
->(hub: &Hub<'f, R>, plan: &Plan) -> Result<Prepared<'f>, Ended<'a>> {
+pub(crate) fn prepare<'f, 'a, R: Runtime + Wait>(
+    hub: &Hub<'f, R>,
+    plan: &Plan,
+) -> Result<Prepared<'f>, Ended<'a>> {
     let alloc = hub.rt.alloc();
     let folder = hub.folder;
     let mut prepared = Prepared {
@@ -256,7 +256,7 @@ pub(crate) fn prepare<
 
 impl<'f> Prepared<'f> {
     // Opens the spool of a receiver, where the gateway hasn't.
-    fn open<'a, R: Wait + Clock + Files<File = File> + Eprint + AllocGlobal + Clone + Drop>(
+    fn open<'a, R: Runtime + Wait>(
         &mut self,
         hub: &Hub<'f, R>,
         name: &[u8],

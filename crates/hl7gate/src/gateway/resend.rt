@@ -2,6 +2,7 @@
 use crate::gateway::hub::Hub;
 use crate::gateway::outgoing::{Outgoing, reported};
 use crate::gateway::row::RowFault;
+use crate::runtime::Runtime;
 use gw_er7::{ReadFault, read};
 use gw_forward::StoreFault;
 use gw_mllp::{Decoder, FrameFault};
@@ -9,10 +10,9 @@ use gw_stream::RunFault;
 use memchr::memrchr;
 use std::alloc::{AllocError, Global};
 use std::fs::File;
-use std::io::{Eprint, ErrorKind, Read};
+use std::io::{ErrorKind, Read};
 use std::rt::Files;
 use std::sync::Wait;
-use std::time::Clock;
 use std::{fs, io};
 
 /// How many bytes of a file are read at once.
@@ -87,7 +87,7 @@ struct Put<'a, 'f, R: Wait> {
     appended: usize,
 }
 
-impl<R: Wait + Clock + Files<File = File> + Eprint + AllocGlobal> Put<'_, '_, R> {
+impl<R: Runtime + Wait> Put<'_, '_, R> {
     fn unless_failed(&self, done: Result<(), RowFault>) -> Result<(), Unsent> {
         match done {
             Ok(()) => Ok(()),
@@ -99,7 +99,7 @@ impl<R: Wait + Clock + Files<File = File> + Eprint + AllocGlobal> Put<'_, '_, R>
     }
 }
 
-impl<R: Wait + Clock + Files<File = File> + Eprint + AllocGlobal> Taker for Put<'_, '_, R> {
+impl<R: Runtime + Wait> Taker for Put<'_, '_, R> {
     fn take(&mut self, _number: u64, content: &[u8]) -> Result<(), Unsent> {
         self.unless_failed(self.outgoing.put(self.rt, content))?;
         self.appended = self.appended.saturating_add(content.len());
@@ -155,7 +155,7 @@ fn hand_over<T: Taker>(alloc: Global, file: &File, taker: &mut T) -> Result<u64,
 }
 
 /// Puts the messages of this file into a receiver's spool, once all of them can be read, and takes the file away.
-fn put_all<R: Wait + Clock + Files<File = File> + Eprint + AllocGlobal>(
+fn put_all<R: Runtime + Wait>(
     rt: &R,
     outgoing: &Outgoing<'_>,
     name: &[u8],
@@ -183,7 +183,7 @@ fn is_there<R: Files<File = File>>(rt: &R, path: &str) -> bool {
 }
 
 /// Puts what a receiver refused into its spool: what an earlier call left, then the file at `path`, which is renamed to `taken` before.
-fn put_again<R: Wait + Clock + Files<File = File> + Eprint + AllocGlobal>(
+fn put_again<R: Runtime + Wait>(
     rt: &R,
     outgoing: &Outgoing<'_>,
     name: &[u8],
@@ -230,7 +230,7 @@ fn answer_of(
 }
 
 /// Has what the receiver of this name refused sent again, behind what waits for it. Says how many messages these are.
-pub(crate) fn resend<R: Wait + Clock + Files<File = File> + Eprint + AllocGlobal>(
+pub(crate) fn resend<R: Runtime + Wait>(
     hub: &Hub<'_, R>,
     name: &str,
 ) -> Result<String, AllocError> {

@@ -8,6 +8,7 @@ use crate::gateway::numbers::Numbers;
 use crate::gateway::outgoing::Filling;
 use crate::gateway::relay::Relay;
 use crate::gateway::senders::attend;
+use crate::runtime::Runtime;
 use crate::swaps::swap_or_lines;
 use crate::threads::{Onward, PARTS, Service};
 use gw_forward::{StoreFault, spooler};
@@ -16,7 +17,7 @@ use gw_run::{Phase, worker};
 use gw_stream::RunFault;
 use std::alloc::{AllocError, Global};
 use std::fs::File;
-use std::io::{Eprint, Read};
+use std::io::Eprint;
 use std::marker::Brand;
 use std::rt::Files;
 use std::sync::Wait;
@@ -32,7 +33,7 @@ const NOTICE: u64 = 300;
 const LOOK: u64 = 20;
 
 /// Appends what is given out for the receiver of this number to its spool, until no result will come any more.
-fn spool<L: Ledger, R: Wait + Clock + Files<File = File> + Eprint + AllocGlobal>(
+fn spool<L: Ledger, R: Runtime + Wait>(
     service: &Service<'_, L, R>,
     hub: &Hub<'_, R>,
     number: usize,
@@ -99,10 +100,10 @@ fn work<L: Ledger, R: Wait + Clock + Eprint + AllocGlobal>(
 }
 
 /// Has senders attended to, a thread each, until the round takes no message any more, and waits for them.
-fn take_senders<
-    L: Ledger + Send,
-    R: Threads + Wait + Clock + Files<File = File> + Eprint + AllocGlobal + Sync,
->(service: &Service<'_, L, R>, hub: &Hub<'_, R>) {
+fn take_senders<L: Ledger + Send, R: Runtime + Threads + Wait>(
+    service: &Service<'_, L, R>,
+    hub: &Hub<'_, R>,
+) {
     thread::scope(
         thread::scope_env(),
         hub.rt,
@@ -154,10 +155,7 @@ fn answer_of(alloc: Global, swapped: &Result<u64, Vec<u8>>) -> Result<String, Al
 }
 
 /// Swaps in the plan that somebody asked for, if somebody did.
-fn swap_asked<L: Ledger, R: Wait + Clock + Files<File = File> + Eprint + AllocGlobal>(
-    service: &Service<'_, L, R>,
-    hub: &Hub<'_, R>,
-) {
+fn swap_asked<L: Ledger, R: Runtime + Wait>(service: &Service<'_, L, R>, hub: &Hub<'_, R>) {
     let Some(path) = hub.asked_swap() else {
         return;
     };
@@ -195,10 +193,11 @@ fn look<R: Wait + Clock>(hub: &Hub<'_, R>, notice: Option<Instant>) -> Option<In
 }
 
 /// Has workers work, a thread each, while senders are attended to, and waits for their end.
-fn with_workers<
-    L: Ledger + Send,
-    R: Threads + Wait + Clock + Files<File = File> + Eprint + AllocGlobal + Sync,
->(service: &Service<'_, L, R>, hub: &Hub<'_, R>, workers: u64) {
+fn with_workers<L: Ledger + Send, R: Runtime + Threads + Wait>(
+    service: &Service<'_, L, R>,
+    hub: &Hub<'_, R>,
+    workers: u64,
+) {
     thread::scope(
         thread::scope_env(),
         hub.rt,
@@ -224,20 +223,20 @@ fn with_workers<
 }
 
 /// Has spools filled, a thread each, while the others work, and waits for their end.
-fn with_spoolers<
-    L: Ledger + Send,
-    R: Threads + Wait + Clock + Files<File = File, Dir = D> + Eprint + AllocGlobal + Sync,
-    D: Read + Drop + Send + Sync,
->(service: &Service<'_, L, R>, hub: &Hub<'_, R>, workers: u64) {
+fn with_spoolers<L: Ledger + Send, R: Runtime + Threads + Wait>(
+    service: &Service<'_, L, R>,
+    hub: &Hub<'_, R>,
+    workers: u64,
+) {
     thread::scope(
         thread::scope_env(),
         hub.rt,
         |scope|
-            requires { IsSend L.row × IsSync R.row × IsSend D.row × IsSync D.row }
+            requires { IsSend L.row × IsSync R.row }
         {
             for number in 0..hub.spools.len() {
                 let fill = move ||
-                    requires { IsSend L.row × IsSync R.row × IsSend D.row × IsSync D.row }
+                    requires { IsSend L.row × IsSync R.row }
                 { spool(service, hub, number) };
                 if scope.spawn(fill).is_err() {
                     hub.fail(RunFault::Memory);
@@ -250,11 +249,13 @@ fn with_spoolers<
 }
 
 /// One round at this gate. It hands on the gate of the next, and is audited behind that. An error is that it hands nothing on.
-fn round<
-    L: Ledger + Send,
-    R: Threads + Wait + Clock + Files<File = File, Dir = D> + Eprint + AllocGlobal + Sync,
-    D: Read + Drop + Send + Sync,
->(hub: &Hub<'_, R>, relay: &Relay, blank: Blank, gate: Gate, workers: u64) -> Result<(), RunFault>
+fn round<L: Ledger + Send, R: Runtime + Threads + Wait>(
+    hub: &Hub<'_, R>,
+    relay: &Relay,
+    blank: Blank,
+    gate: Gate,
+    workers: u64,
+) -> Result<(), RunFault>
     requires name { blank.name ≡ L.name }
     requires parts { blank.parts ≡ L.parts }
     requires many { blank.parts ≡ 1000000 }
@@ -283,18 +284,11 @@ fn round<
 }
 
 /// One round at this gate, up to the end of its audit. A fault ends the gateway.
-fn play<R: Threads + Wait + Clock + Files<File = File> + Eprint + AllocGlobal + Sync>(
-    hub: &Hub<'_, R>,
-    relay: &Relay,
-    workers: u64,
-)
-where
-    R::Dir: Read + Drop + Send + Sync,
-{
+fn play<R: Runtime + Threads + Wait>(hub: &Hub<'_, R>, relay: &Relay, workers: u64) {
     let Some(gate) = relay.start(hub.rt) else {
         return;
     };
-    match round::<Brand, R, R::Dir>(hub, relay, Blank::new(PARTS), gate, workers) {
+    match round::<Brand, R>(hub, relay, Blank::new(PARTS), gate, workers) {
         Ok(()) => relay.end_audit(hub.rt),
         Err(fault) => {
             hub.fail(fault);
@@ -318,23 +312,25 @@ fn is_last<R: Wait + Files<File = File> + Eprint + AllocGlobal>(
 
 /// Rounds at this gate and those behind it, up to the last, and the ends of their audits. It gives the gate that the last hands on.
 /// Each round has a thread, which audits it beside the next.
-fn play_all<
-    R: Threads + Wait + Clock + Files<File = File, Dir = D> + Eprint + AllocGlobal + Sync,
-    D: Read + Drop + Send + Sync,
->(hub: &Hub<'_, R>, first: Gate, numbers: &mut Numbers, workers: u64) -> Option<Gate> {
+fn play_all<R: Runtime + Threads + Wait>(
+    hub: &Hub<'_, R>,
+    first: Gate,
+    numbers: &mut Numbers,
+    workers: u64,
+) -> Option<Gate> {
     let (rt, relay) = (hub.rt, &Relay::new());
     let mut last = None;
     thread::scope(
         thread::scope_env(),
         rt,
         |scope|
-            requires { IsSync R.row × IsSend D.row × IsSync D.row }
+            requires { IsSync R.row }
         {
             let mut gate = first;
             for _ in rt.forever() {
                 relay.begin_at(rt, gate);
                 let play_one = move ||
-                    requires { IsSync R.row × IsSend D.row × IsSync D.row }
+                    requires { IsSync R.row }
                 { play(hub, relay, workers) };
                 if let Err(refused) = scope.spawn(play_one) {
                     (refused.value)()
@@ -354,10 +350,7 @@ fn play_all<
 }
 
 /// Rounds, until a plan is to be installed: the gate of the next. An error is that the gateway was stopped, or can't go on: that is the fault.
-pub(crate) fn rounds<
-    R: Threads + Wait + Clock + Files<File = File, Dir = D> + Eprint + AllocGlobal + Sync,
-    D: Read + Drop + Send + Sync,
->(
+pub(crate) fn rounds<R: Runtime + Threads + Wait>(
     hub: &Hub<'_, R>,
     first: Gate,
     numbers: &mut Numbers,
