@@ -1,7 +1,7 @@
 //! The commands `profile`, `map` and `plan`: what a text has, or why it is refused.
 use crate::ended::Ended;
 use crate::files::read_text;
-use crate::maps::{parse_map, parse_profile, print_refusal, read_written};
+use crate::maps::{parse_map, parse_profile, read_written, write_refusal};
 use crate::plans::refused;
 use crate::report::{DONE, write_all};
 use clap::ArgMatches;
@@ -9,7 +9,6 @@ use gw_diagnostics::{
     Judged, ProfilePair, Refusal, judge, map_at, map_contents, plan_contents, profile_contents,
     profile_named,
 };
-use gw_maplang::Map;
 use gw_plan::{Plan, PlanFault};
 use std::alloc::Global;
 use std::io::Write;
@@ -40,18 +39,6 @@ pub(crate) fn map<'a, R: Files + AllocGlobal, O: Write>(
     Ok(DONE)
 }
 
-/// The profiles of a map in a plan.
-fn sides_of<'a>(
-    alloc: Global,
-    path: &'a str,
-    text: &[u8],
-    map: &Map,
-) -> Result<ProfilePair, Ended<'a>> {
-    let source = parse_profile(alloc, path, profile_named(text, map.source()))?;
-    let target = parse_profile(alloc, path, profile_named(text, map.target()))?;
-    Ok(ProfilePair { source, target })
-}
-
 /// Reports each rule that a map of a plan breaks, as `check` does, and answers the status.
 fn print_rules<'a, E: Write>(
     alloc: Global,
@@ -62,7 +49,9 @@ fn print_rules<'a, E: Write>(
 ) -> Result<u8, Ended<'a>> {
     let written = map_at(alloc, path, text, line)?;
     let map = parse_map(alloc, &written)?;
-    let sides = sides_of(alloc, path, text, &map)?;
+    let source = parse_profile(alloc, path, profile_named(text, map.source()))?;
+    let target = parse_profile(alloc, path, profile_named(text, map.target()))?;
+    let sides = ProfilePair { source, target };
     match &judge(alloc, &sides, map)? {
         // (what was refused is refused again)
         Judged::Allowed(_) => Ok(DONE),
@@ -73,7 +62,7 @@ fn print_rules<'a, E: Write>(
                 written: &written,
                 refused,
             };
-            print_refusal(alloc, refusal, errors)
+            write_refusal(alloc, refusal, None::<&mut Vec<u8>>, errors)
         }
     }
 }

@@ -73,12 +73,15 @@ impl<'a, 'n, L: Ledger, R: Wait + Eprint> Door for Reporter<'a, 'n, L, R> {
     fn call(&mut self, event: Event) -> Result<Reply, Event> {
         let earlier = self.pass.notes().len();
         let answer = self.pass.call(event);
-        if let Some(at) = entry_at(self.pass.notes(), earlier)
-            && self.is_warning(at)
+        if let Some(Note::Added(receipt)) = self.pass.notes().get(earlier)
+            && self.is_warning(receipt.at)
         {
-            print_warning(self.rt);
+            let used = WARNING + 1;
+            let _ = eprintln!(self.rt;
+                "the journal has {used} of {MAX_ENTRIES} entries: end the service before it is full"
+            );
         }
-        if is_full(&answer) && !self.met_full {
+        if matches!(&answer, Ok(Reply::Full(_))) && !self.met_full {
             self.met_full = true;
             print_full(self.rt, self.who);
         }
@@ -94,33 +97,12 @@ impl<'a, 'n, L: Ledger, R: Wait + Eprint> Door for Reporter<'a, 'n, L, R> {
     }
 }
 
-/// Whether the journal had no room for the entry.
-fn is_full(answer: &Result<Reply, Event>) -> bool {
-    matches!(answer, Ok(Reply::Full(_)))
-}
-
-/// The number of the entry whose note stands behind the earlier ones, if one does.
-fn entry_at(notes: &[Note], earlier: usize) -> Option<usize> {
-    match notes.get(earlier) {
-        Some(Note::Added(receipt)) => Some(receipt.at),
-        _ => None,
-    }
-}
-
 /// How many entries the chapters have in all.
 fn closed_in(chapters: &[Chapter]) -> usize {
     match chapters.last() {
         Some(chapter) => (chapter.start().entries as usize).saturating_add(chapter.entries().len()),
         None => 0,
     }
-}
-
-/// Reports that three quarters of the journal are used.
-fn print_warning<R: Eprint>(rt: &R) {
-    let used = WARNING + 1;
-    let _ = eprintln!(rt;
-        "the journal has {used} of {MAX_ENTRIES} entries: end the service before it is full"
-    );
 }
 
 /// Reports who meets a full journal, and what comes of it.

@@ -33,7 +33,7 @@ pub(crate) fn explain<'a, R: Files + AllocGlobal, O: Write, E: Write>(
                 written: &written,
                 refused,
             };
-            let status = write_refusal(alloc, refusal, output, errors)?;
+            let status = write_refusal(alloc, refusal, Some(&mut *output), errors)?;
             write_all(output, &said)?;
             Ok(status)
         }

@@ -2,6 +2,7 @@
 ghost use Rattle.std.specs.Thread.{IsSend, IsSync};
 
 use crate::runtime::Runtime;
+use crate::sockets::pause;
 use crate::swaps::swap_all;
 use crate::threads::{Connection, Line, Service};
 use gw_run::Phase;
@@ -12,10 +13,7 @@ use std::sync::Wait;
 use std::sync::ledger::Ledger;
 use std::thread;
 use std::thread::Threads;
-use std::time::{Clock, Duration};
-
-/// How many milliseconds nothing is accepted behind a connection that can't be taken: no descriptor may be free.
-const PAUSE: u64 = 100;
+use std::time::Clock;
 
 /// How many connections are taken, and how many threads work on jobs.
 #[derive(Clone, Copy)]
@@ -38,7 +36,7 @@ fn take<L: Ledger, R: Wait + Clock + Eprint + AllocGlobal>(
         }),
         Err(_) => {
             service.end_session(number, RunFault::Read);
-            thread::sleep(service.rt, Duration::from_millis(PAUSE));
+            pause(service.rt);
             None
         }
     }

@@ -25,6 +25,7 @@ mod report;
 mod runtime;
 mod sample;
 mod serve;
+mod sockets;
 mod stamps;
 mod streams;
 mod swaps;

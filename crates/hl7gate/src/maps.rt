@@ -94,26 +94,24 @@ pub(crate) fn judged<'a>(
     Ok(judged)
 }
 
-// The same writer with a buffer: a refusal may be a megabyte in small pieces.
-fn buffered<'a, 'e, E: Write>(
-    alloc: Global,
-    errors: &'e mut E,
-) -> Result<BufWriter<&'e mut E>, Ended<'a>> {
-    BufWriter::new(alloc, errors).map_err(|_| Ended::Run(RunFault::Memory))
-}
-
-/// Prints the rule that refuses a map, and answers the status; what a person needs to mend it goes to `errors`.
+/// Prints the rule that refuses a map, and answers the status. What a person needs to mend it goes to `errors`; without `output`, so does the rule.
 pub(crate) fn write_refusal<'a, O: Write, E: Write>(
     alloc: Global,
     refusal: Refusal<'_>,
-    output: &mut O,
+    output: Option<&mut O>,
     errors: &mut E,
 ) -> Result<u8, Ended<'a>> {
     let failures = refusal.in_order(alloc)?;
-    let mut errors = buffered(alloc, errors)?;
+    // (a refusal may be a megabyte in small pieces)
+    let Ok(mut errors) = BufWriter::new(alloc, errors) else {
+        return Err(Ended::Run(RunFault::Memory));
+    };
     let (rule, line) = refusal.rule();
     let said = format!(in alloc; "refused K{rule} line {line}\n")?;
-    write_all(output, said.as_bytes())?;
+    match output {
+        Some(output) => write_all(output, said.as_bytes())?,
+        None => drop(errors.write_all(said.as_bytes())),
+    }
     refusal.tell(alloc, &mut errors, &failures);
     Ok(REFUSED)
 }
@@ -148,7 +146,7 @@ pub(crate) fn check<'a, R: Files + AllocGlobal, O: Write, E: Write>(
                 written: &written,
                 refused,
             };
-            write_refusal(alloc, refusal, output, errors)
+            write_refusal(alloc, refusal, Some(output), errors)
         }
     }
 }
@@ -197,20 +195,6 @@ fn write_translation<'a, R: AllocGlobal, I: Read, O: Write>(
     Ok(DONE)
 }
 
-/// Reports the rule that refuses a map, and what a person needs to mend it, and answers the status.
-pub(crate) fn print_refusal<'a, E: Write>(
-    alloc: Global,
-    refusal: Refusal<'_>,
-    errors: &mut E,
-) -> Result<u8, Ended<'a>> {
-    let failures = refusal.in_order(alloc)?;
-    let mut errors = buffered(alloc, errors)?;
-    let (rule, line) = refusal.rule();
-    let _ = writeln!(errors, "refused K{rule} line {line}");
-    refusal.tell(alloc, &mut errors, &failures);
-    Ok(REFUSED)
-}
-
 /// Prints the translation of the message on standard input. A refused map is reported before standard input is read. Returns the status.
 /// The files SOURCE, TARGET and MAP are each read and parsed before the next.
 pub(crate) fn translate<'a, R: Files + AllocGlobal, I: Read, O: Write, E: Write>(
@@ -230,7 +214,7 @@ pub(crate) fn translate<'a, R: Files + AllocGlobal, I: Read, O: Write, E: Write>
                 written: &written,
                 refused,
             };
-            print_refusal(rt.alloc(), refusal, errors)
+            write_refusal(rt.alloc(), refusal, None::<&mut Vec<u8>>, errors)
         }
     }
 }

@@ -29,7 +29,7 @@ pub(crate) fn refused<'a>(
 }
 
 /// The plan of a file's text.
-fn parse_plan<'a>(alloc: Global, path: &'a str, text: &[u8]) -> Result<Plan, Ended<'a>> {
+pub(crate) fn parse_plan<'a>(alloc: Global, path: &'a str, text: &[u8]) -> Result<Plan, Ended<'a>> {
     match Plan::parse(alloc, text) {
         Ok(plan) => Ok(plan),
         Err(fault) => Err(refused(alloc, path, text, fault)?),

@@ -10,29 +10,12 @@ use crate::report::{DONE, USAGE, print_if_none, status_if};
 use crate::sample::sample;
 use crate::stamps::stamp_of;
 use clap::ArgMatches;
-use gw_stream::{Counts, Reads, Writes, answer_stream};
+use gw_stream::{Reads, Writes, answer_stream};
 use std::io::{IsTerminal, Read, Write};
 use std::rt::Files;
 use std::time::Clock;
 
-/// Answers each message of a stream by a profile.
-fn validate<'a, R: Files + Clock + AllocGlobal, I: Read, O: Write>(
-    rt: &R,
-    words: &ArgMatches<'a>,
-    input: &mut I,
-    output: &mut O,
-) -> Result<Counts, Ended<'a>> {
-    let Some(stamp) = stamp_of(rt, words.get_str("stamp")) else {
-        return Err(Ended::Stamp);
-    };
-    let profile = read_profile(rt, words, "PROFILE")?;
-    let mut reader = Reads::new(input);
-    let mut writer = Writes::new(output);
-    let counts = answer_stream(rt.alloc(), profile, stamp, &mut reader, &mut writer)?;
-    Ok(counts)
-}
-
-/// Validates a stream, reports where it has no message, and returns the status.
+/// Answers each message of a stream by a profile, reports where it has none, and returns the status.
 fn validated<'a, R: Files + Clock + AllocGlobal, I: Read, O: Write, E: Write>(
     rt: &R,
     words: &ArgMatches<'a>,
@@ -40,7 +23,13 @@ fn validated<'a, R: Files + Clock + AllocGlobal, I: Read, O: Write, E: Write>(
     output: &mut O,
     errors: &mut E,
 ) -> Result<u8, Ended<'a>> {
-    let counts = validate(rt, words, input, output)?;
+    let Some(stamp) = stamp_of(rt, words.get_str("stamp")) else {
+        return Err(Ended::Stamp);
+    };
+    let profile = read_profile(rt, words, "PROFILE")?;
+    let mut reader = Reads::new(input);
+    let mut writer = Writes::new(output);
+    let counts = answer_stream(rt.alloc(), profile, stamp, &mut reader, &mut writer)?;
     print_if_none(errors, counts.answered);
     Ok(status_if(counts.aa == counts.answered))
 }

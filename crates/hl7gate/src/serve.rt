@@ -6,12 +6,13 @@ use crate::hands::{Sizes, with_couriers};
 use crate::plans::read_plan;
 use crate::report::{print_if_full, print_report};
 use crate::runtime::Runtime;
+use crate::sockets::{connect, listen};
 use crate::stamps::stamp_of;
 use crate::threads::{Line, PARTS, Served, Service};
 use clap::ArgMatches;
 use gw_ack::Stamp;
 use gw_gate::Gate;
-use gw_plan::{Plan, Receiver};
+use gw_plan::Plan;
 use gw_stream::RunFault;
 use std::io::{Eprint, Read, Write};
 use std::marker::Brand;
@@ -19,11 +20,6 @@ use std::net::{Net, TcpListener, TcpStream};
 use std::sync::ledger::{Blank, Ledger};
 use std::sync::{Arc, Wait};
 use std::thread::Threads;
-
-/// The number that a word gives: from 1 to 1,000, in decimal digits.
-fn count<'a>(words: &ArgMatches<'a>, name: &'static str) -> Result<u64, Ended<'a>> {
-    count_or(words, name, "")
-}
 
 /// The number that a word gives, or else this one: from 1 to 1,000, in decimal digits.
 pub(crate) fn count_or<'a>(
@@ -39,21 +35,6 @@ pub(crate) fn count_or<'a>(
     }
 }
 
-/// The connection to a receiver.
-fn connect<R: Net<Stream = TcpStream, Listener = TcpListener>>(
-    rt: &R,
-    receiver: &Receiver,
-) -> Option<TcpStream> {
-    let Ok(address) = str::from_utf8(&receiver.address) else {
-        return None;
-    };
-    let Ok(stream) = TcpStream::connect(rt, address) else {
-        return None;
-    };
-    let _ = stream.set_nodelay(true);
-    Some(stream)
-}
-
 /// The lines to the receivers of a plan, in its order.
 fn connect_all<'p, R: Net<Stream = TcpStream, Listener = TcpListener> + Eprint + AllocGlobal>(
     rt: &R,
@@ -62,7 +43,7 @@ fn connect_all<'p, R: Net<Stream = TcpStream, Listener = TcpListener> + Eprint +
     let mut lines = Vec::new(rt.alloc());
     for (number, receiver) in plan.receivers().iter().enumerate() {
         let name = receiver.name.as_slice();
-        let Some(stream) = connect(rt, receiver) else {
+        let Some(stream) = connect(rt, &receiver.address, None) else {
             let _ = eprintln!(rt;
                 "receiver {} unreachable\n{}: can't be connected",
                 name.escape_ascii(),
@@ -112,30 +93,16 @@ fn serve_with<
     service.end()
 }
 
-/// The listener at the address ADDRESS.
-pub(crate) fn listen<'a, R: Net<Stream = TcpStream, Listener = TcpListener> + Eprint>(
-    rt: &R,
-    words: &ArgMatches<'a>,
-) -> Result<TcpListener, Ended<'a>> {
-    let address = words.get_str("ADDRESS").unwrap_or("");
-    let Ok(listener) = TcpListener::bind(rt, address) else {
-        return Err(Ended::Unheard { address });
-    };
-    if let Ok(at) = listener.local_addr() {
-        let _ = eprintln!(rt; "listening on {at}");
-    }
-    Ok(listener)
-}
-
 /// Serves under the plan of the file PLAN at ADDRESS, and prints what the gate did.
 fn serve<
     'a,
     R: Runtime + Threads + Wait + Net<Stream = TcpStream, Listener = TcpListener>,
     I: Read + Drop + Send,
 >(rt: &R, words: &ArgMatches<'a>, paths: I) -> Result<Served, Ended<'a>> {
+    // (neither word may be left out)
     let sizes = Sizes {
-        sessions: count(words, "SESSIONS")?,
-        workers: count(words, "WORKERS")?,
+        sessions: count_or(words, "SESSIONS", "")?,
+        workers: count_or(words, "WORKERS", "")?,
     };
     let Some(start) = stamp_of(rt, None) else {
         return Err(Ended::Stamp);

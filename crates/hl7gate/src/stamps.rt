@@ -16,6 +16,14 @@ pub(crate) fn stamp_of<R: Clock>(clock: &R, digits: Option<&str>) -> Option<Stam
     }
 }
 
+/// A time in fourteen digits, or zeros where these aren't fourteen.
+pub(crate) fn time_in(digits: &[u8]) -> [u8; 14] {
+    match <[u8; 14]>::try_from(digits) {
+        Ok(time) => time,
+        Err(_) => [b'0'; 14],
+    }
+}
+
 /// The system's clock, in UTC: each answer has the time at which it is made.
 #[derive(Drop)]
 pub(crate) struct Utc<'a, R: Clock> {

@@ -38,21 +38,16 @@ fn unread(ended: Ended<'_>) -> Unswapped<'_> {
     }
 }
 
-/// The text of a plan's file.
-fn read_plan<'a, R: Files + AllocGlobal>(rt: &R, path: &'a str) -> Result<Vec<u8>, Unswapped<'a>> {
-    match read_text(rt, path) {
-        Ok(text) => Ok(text),
-        Err(ended) => Err(unread(ended)),
-    }
-}
-
 /// Swaps in the plan of a file, and gives its version.
 fn swap_file<'a, L: Ledger, R: Wait + Files + Eprint + AllocGlobal>(
     door: &mut Reporter<'_, '_, L, R>,
     rt: &R,
     path: &'a str,
 ) -> Result<u64, Unswapped<'a>> {
-    let text = read_plan(rt, path)?;
+    let text = match read_text(rt, path) {
+        Ok(text) => text,
+        Err(ended) => return Err(unread(ended)),
+    };
     match swap(rt.alloc(), door, &text) {
         Ok(version) => Ok(version),
         Err(SwapFault::Plan(fault)) => {
@@ -81,13 +76,6 @@ pub(crate) fn lines_of<R: AllocGlobal>(rt: &R, path: &str, why: &Unswapped<'_>) 
         }
     }
     lines
-}
-
-/// Reports on standard error why the plan of a file isn't swapped in.
-fn print_unswapped<R: Eprint + AllocGlobal>(rt: &R, path: &str, why: &Unswapped<'_>) {
-    if let Ok(lines) = String::from_utf8(lines_of(rt, path, why)) {
-        let _ = eprint!(rt; "{lines}");
-    }
 }
 
 /// Swaps in the plan of a file, and gives its version, or the lines that say why it isn't swapped in.
@@ -157,6 +145,7 @@ fn read_next<I: Read + Drop>(
     }
 }
 
+/// Does what each line says: `cut` closes the journal, and any other is the path of a plan to be swapped in.
 fn swap_with<L: Ledger, R: Runtime + Wait, I: Read + Drop>(
     service: &Service<'_, L, R>,
     door: &mut Reporter<'_, '_, L, R>,
@@ -174,7 +163,10 @@ fn swap_with<L: Ledger, R: Runtime + Wait, I: Read + Drop>(
             Next::NoText => {
                 let _ = eprintln!(rt; "plan unread\na line of standard input isn't text");
             }
-            Next::Line => take_line(service, door, &line),
+            Next::Line => match path_of(&line) {
+                "cut" => cut_one(service, door),
+                path => swap_one(door, rt, path),
+            },
         }
     }
     unreachable!()
@@ -186,25 +178,17 @@ fn path_of(line: &str) -> &str {
     path.strip_suffix('\r').unwrap_or(path)
 }
 
-/// Does what a line says: `cut` closes the journal, and any other is the path of a plan to be swapped in.
-fn take_line<L: Ledger, R: Runtime + Wait>(
-    service: &Service<'_, L, R>,
-    door: &mut Reporter<'_, '_, L, R>,
-    line: &str,
-) {
-    match path_of(line) {
-        "cut" => cut_one(service, door),
-        path => swap_one(door, service.rt, path),
-    }
-}
-
 /// Swaps in the plan of a file, and prints the outcome.
 fn swap_one<L: Ledger, R: Runtime + Wait>(door: &mut Reporter<'_, '_, L, R>, rt: &R, path: &str) {
     match swap_file(door, rt, path) {
         Ok(version) => {
             let _ = println!(rt; "swapped {version}");
         }
-        Err(why) => print_unswapped(rt, path, &why),
+        Err(why) => {
+            if let Ok(lines) = String::from_utf8(lines_of(rt, path, &why)) {
+                let _ = eprint!(rt; "{lines}");
+            }
+        }
     }
 }
 

@@ -18,7 +18,8 @@ use crate::gateway::senders::accept_all;
 use crate::plans::read_plan;
 use crate::report::DONE;
 use crate::runtime::Runtime;
-use crate::serve::{count_or, listen};
+use crate::serve::count_or;
+use crate::sockets::listen;
 use crate::stamps::stamp_of;
 use clap::ArgMatches;
 use gw_ack::Stamp;
@@ -46,14 +47,6 @@ const LOOK: u64 = 25;
 struct Sizes {
     workers: u64,
     connections: u64,
-}
-
-/// The sizes that the words ask for.
-fn sizes_of<'a>(words: &ArgMatches<'a>) -> Result<Sizes, Ended<'a>> {
-    Ok(Sizes {
-        workers: count_or(words, "workers", WORKERS)?,
-        connections: count_or(words, "connections", CONNECTIONS)?,
-    })
 }
 
 /// Where senders, words and readers of the page come in.
@@ -280,7 +273,10 @@ pub(crate) fn gateway<
     'a,
     R: Runtime + Threads + Wait + Net<Stream = TcpStream, Listener = TcpListener>,
 >(rt: &R, words: &ArgMatches<'a>) -> Result<u8, Ended<'a>> {
-    let sizes = sizes_of(words)?;
+    let sizes = Sizes {
+        workers: count_or(words, "workers", WORKERS)?,
+        connections: count_or(words, "connections", CONNECTIONS)?,
+    };
     let Some(start) = stamp_of(rt, None) else {
         return Err(Ended::Stamp);
     };

@@ -42,11 +42,19 @@ pub(crate) struct Folder {
     lock: File,
 }
 
-/// Why a file of the folder can't be made or written.
-pub(crate) fn unwritten<'a>(alloc: Global, file: &str, error: &io::Error) -> Ended<'a> {
-    match (error.kind(), String::from_str(alloc, file)) {
-        (ErrorKind::OutOfMemory, _) | (_, Err(_)) => Ended::Run(RunFault::Memory),
-        (_, Ok(file)) => Ended::Unwritten { file },
+/// What came of a call on a file of the folder, or that the file can't be made or written.
+pub(crate) fn or_unwritten<'a, T>(
+    alloc: Global,
+    file: &str,
+    done: io::Result<T>,
+) -> Result<T, Ended<'a>> {
+    let error = match done {
+        Ok(value) => return Ok(value),
+        Err(error) => error.kind(),
+    };
+    match (error, String::from_str(alloc, file)) {
+        (ErrorKind::OutOfMemory, _) | (_, Err(_)) => Err(Ended::Run(RunFault::Memory)),
+        (_, Ok(file)) => Err(Ended::Unwritten { file }),
     }
 }
 
@@ -82,21 +90,13 @@ pub(crate) fn write_file<R: Files<File = File> + AllocGlobal>(
 ) -> io::Result<()> {
     let path = format!(in rt.alloc(); "{folder}/{name}")?;
     let next = format!(in rt.alloc(); "{folder}/{name}.new")?;
-    write_whole(rt, &next, bytes)?;
-    fs::rename(rt, next.as_str(), path.as_str())?;
-    sync_folder(rt, folder)
-}
-
-/// Has the file of this path hold these bytes alone, on the disk.
-fn write_whole<R: Files<File = File> + AllocGlobal>(
-    rt: &R,
-    path: &str,
-    bytes: &[u8],
-) -> io::Result<()> {
-    let file = open_private(rt, path)?;
+    let file = open_private(rt, &next)?;
     file.set_len(0)?;
     file.write_all_at(bytes, 0)?;
-    file.sync_all()
+    file.sync_all()?;
+    drop(file);
+    fs::rename(rt, next.as_str(), path.as_str())?;
+    sync_folder(rt, folder)
 }
 
 /// Brings to the disk which files a folder has.
@@ -143,24 +143,15 @@ impl Folder {
     ) -> Result<Self, Ended<'a>> {
         let alloc = rt.alloc();
         let name = format!(in alloc; "{path}/lock")?;
-        let lock = match open_private(rt, &name) {
-            Ok(lock) => lock,
-            Err(error) => return Err(unwritten(alloc, &name, &error)),
-        };
+        let lock = or_unwritten(alloc, &name, open_private(rt, &name))?;
         if lock.try_lock().is_err() {
             return Err(Ended::Taken { path });
         }
         let is_new = Self::make(rt, path)?;
         let name = format!(in alloc; "{path}/reserve")?;
-        let reserve = match open_private(rt, &name) {
-            Ok(reserve) => reserve,
-            Err(error) => return Err(unwritten(alloc, &name, &error)),
-        };
+        let reserve = or_unwritten(alloc, &name, open_private(rt, &name))?;
         let name = format!(in alloc; "{path}/refusals.log")?;
-        let log = match open_log(rt, &name) {
-            Ok(log) => log,
-            Err(error) => return Err(unwritten(alloc, &name, &error)),
-        };
+        let log = or_unwritten(alloc, &name, open_log(rt, &name))?;
         let path = String::from_str(alloc, path)?;
         let folder = Folder {
             path,
@@ -169,10 +160,10 @@ impl Folder {
             log,
             lock,
         };
-        match folder.sync_made(rt) {
-            Ok(()) => Ok(folder),
-            Err(error) => Err(unwritten(alloc, &folder.path, &error)),
-        }
+        // (an earlier gateway may have been killed before it brought to the disk what it made)
+        or_unwritten(alloc, &folder.path, sync_folder(rt, &folder.path))?;
+        or_unwritten(alloc, &folder.path, folder.sync(rt, "refused"))?;
+        Ok(folder)
     }
 
     /// Brings to the disk which files the folder of this name in it has.
@@ -185,12 +176,6 @@ impl Folder {
         sync_folder(rt, &path)
     }
 
-    // Brings to the disk what was made. (An earlier gateway may have been killed before it did so.)
-    fn sync_made<R: Files<File = File> + AllocGlobal>(&self, rt: &R) -> io::Result<()> {
-        sync_folder(rt, &self.path)?;
-        self.sync(rt, "refused")
-    }
-
     // Makes the folders and the page. Says whether the folder of spools was made.
     fn make<'a, R: Files<File = File> + AllocGlobal>(
         rt: &R,
@@ -200,16 +185,11 @@ impl Folder {
         let mut is_new = false;
         for name in ["refused", "spool"] {
             let folder = format!(in alloc; "{path}/{name}")?;
-            is_new = match make_folder(rt, &folder) {
-                Ok(is_made) => is_made,
-                Err(error) => return Err(unwritten(alloc, &folder, &error)),
-            };
+            is_new = or_unwritten(alloc, &folder, make_folder(rt, &folder))?;
         }
         let page = format!(in alloc; "{path}/README")?;
-        match fs::write(rt, page.as_str(), PAGE) {
-            Ok(()) => Ok(is_new),
-            Err(error) => Err(unwritten(alloc, &page, &error)),
-        }
+        or_unwritten(alloc, &page, fs::write(rt, page.as_str(), PAGE))?;
+        Ok(is_new)
     }
 
     /// What room the disk has. Where the reserve was used it is filled again, if there is room for it.

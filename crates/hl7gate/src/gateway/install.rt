@@ -3,7 +3,7 @@ use crate::ended::Ended;
 use crate::files::read_text;
 use crate::gateway::hub::Hub;
 use crate::gateway::receivers::{Prepared, prepare};
-use crate::plans::refused;
+use crate::plans::parse_plan;
 use crate::runtime::Runtime;
 use crate::swaps::{Unswapped, lines_of};
 use gw_gate::{Gate, Start};
@@ -34,21 +34,13 @@ impl<'f> Ready<'f> {
     }
 }
 
-/// The plan of a file's text.
-fn parse<'a, R: AllocGlobal>(rt: &R, path: &'a str, text: &[u8]) -> Result<Plan, Ended<'a>> {
-    match Plan::parse(rt.alloc(), text) {
-        Ok(plan) => Ok(plan),
-        Err(fault) => Err(refused(rt.alloc(), path, text, fault)?),
-    }
-}
-
 /// Makes the plan of a file ready: its text, and its receivers.
 fn make_ready<'f, 'a, R: Runtime + Wait>(
     hub: &Hub<'f, R>,
     path: &'a str,
 ) -> Result<(Vec<u8>, Prepared<'f>), Ended<'a>> {
     let text = read_text(hub.rt, path)?;
-    let plan = parse(hub.rt, path, &text)?;
+    let plan = parse_plan(hub.rt.alloc(), path, &text)?;
     let receivers = prepare(hub, &plan)?;
     Ok((text, receivers))
 }

@@ -10,7 +10,7 @@ use std::time::Clock;
 /// For how many seconds a message waits without a line.
 const LONG: u64 = 60;
 
-/// Reports on standard error, and in the log of refusals, that messages wait for long, or don't any more.
+/// Reports on standard error, and behind the time in the log of refusals, that messages wait for long, or don't any more.
 fn report<R: Wait + Clock + Eprint + AllocGlobal>(
     hub: &Hub<'_, R>,
     to: &Destination,
@@ -25,18 +25,10 @@ fn report<R: Wait + Clock + Eprint + AllocGlobal>(
         format!(in alloc; "receiver {name}: none waits for more than {LONG} s any more")?
     };
     let _ = eprintln!(hub.rt; "{line}");
-    log_dated(hub, line.as_bytes())
-}
-
-/// Adds a line to the log of refusals, behind the time.
-fn log_dated<R: Wait + Clock + Eprint + AllocGlobal>(
-    hub: &Hub<'_, R>,
-    line: &[u8],
-) -> Result<(), AllocError> {
     let stamp = stamp_of(hub.rt, None).unwrap_or(hub.start);
-    let mut dated = Vec::from_slice(hub.rt.alloc(), stamp.digits())?;
+    let mut dated = Vec::from_slice(alloc, stamp.digits())?;
     dated.push(b' ')?;
-    dated.extend_from_slice(line)?;
+    dated.extend_from_slice(line.as_bytes())?;
     dated.push(b'\n')?;
     // (the file is opened to be added to)
     let _ = hub.folder.log.write_all_at(&dated, 0);

@@ -1,11 +1,12 @@
 //! The connection to a receiver: made, watched, written and read.
 use crate::gateway::outgoing::Outgoing;
 use crate::gateway::tally::Tally;
+use crate::sockets;
 use libc::net::{IPPROTO_TCP, SO_KEEPALIVE, SOL_SOCKET, TCP_USER_TIMEOUT, setsockopt};
 use std::cell::Cell;
 use std::io;
 use std::io::{Error, ErrorKind, Read, Write};
-use std::net::{Net, TcpListener, TcpStream, ToSocketAddrs};
+use std::net::{Net, TcpListener, TcpStream};
 use std::os::fd::AsRawFd;
 use std::sync::Wait;
 use std::time::Duration;
@@ -35,27 +36,16 @@ pub(crate) fn watch(stream: &TcpStream) {
     let _timed = unsafe { setsockopt(fd, IPPROTO_TCP, TCP_USER_TIMEOUT, &time, 4) };
 }
 
-/// The connection to this address, HOST:PORT.
+/// The connection to this address, HOST:PORT. It is watched, and each call of it has a time.
 pub(crate) fn connect<R: Net<Stream = TcpStream, Listener = TcpListener>>(
     rt: &R,
     address: &[u8],
 ) -> Option<TcpStream> {
-    let Ok(address) = str::from_utf8(address) else {
-        return None;
-    };
-    let Ok(places) = address.to_socket_addrs(rt) else {
-        return None;
-    };
-    for place in places {
-        if let Ok(stream) = TcpStream::connect_timeout(rt, &place, Duration::from_secs(CONNECT)) {
-            let _ = stream.set_nodelay(true);
-            let _ = stream.set_read_timeout(Some(Duration::from_secs(1)));
-            let _ = stream.set_write_timeout(Some(Duration::from_secs(ANSWER)));
-            watch(&stream);
-            return Some(stream);
-        }
-    }
-    None
+    let stream = sockets::connect(rt, address, Some(Duration::from_secs(CONNECT)))?;
+    let _ = stream.set_read_timeout(Some(Duration::from_secs(1)));
+    let _ = stream.set_write_timeout(Some(Duration::from_secs(ANSWER)));
+    watch(&stream);
+    Some(stream)
 }
 
 /// What a receiver sends: acknowledgments, for each of which there is a minute.

@@ -3,7 +3,7 @@
 //! FOLDER/numbers says up to which numbers all may have been given. It is on the disk before the first number above it is given.
 use crate::ended::Ended;
 use crate::files::read_all;
-use crate::gateway::folder::{Folder, unwritten, write_file};
+use crate::gateway::folder::{Folder, or_unwritten, write_file};
 use gw_gate::{Gate, MAX_ENTRIES, Start};
 use gw_plan::Plan;
 use gw_stream::RunFault;
@@ -181,13 +181,10 @@ impl Numbers {
             return Err(Ended::Run(RunFault::Memory));
         };
         let mut numbers = Numbers { taken: 0 };
-        match numbers.take(rt, folder, &gate) {
-            Ok(()) => Ok((numbers, gate)),
-            Err(error) => {
-                let name = format!(in alloc; "{}/{NAME}", folder.path)?;
-                Err(unwritten(alloc, &name, &error))
-            }
-        }
+        let taken = numbers.take(rt, folder, &gate);
+        let name = format!(in alloc; "{}/{NAME}", folder.path)?;
+        or_unwritten(alloc, &name, taken)?;
+        Ok((numbers, gate))
     }
 
     // Takes numbers behind those of a gate.

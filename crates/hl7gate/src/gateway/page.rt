@@ -4,7 +4,7 @@ use crate::gateway::hub::{Counters, Destination, Hub};
 use crate::gateway::outgoing::{Outgoing, State};
 use crate::gateway::tally::Tallied;
 use crate::gateway::watch::Seen;
-use crate::stamps::stamp_of;
+use crate::stamps::{stamp_of, time_in};
 use clap::ArgMatches;
 use gw_page::{Figures, Receiver, answer};
 use gw_stream::RunFault;
@@ -117,17 +117,6 @@ fn receivers_of<R: Wait + Clock + AllocGlobal>(
     Ok(receivers)
 }
 
-/// The time in fourteen digits, or zeros.
-fn time_of<R: Clock>(rt: &R) -> [u8; 14] {
-    let mut digits = [b'0'; 14];
-    if let Some(stamp) = stamp_of(rt, None)
-        && let Ok(now) = <[u8; 14]>::try_from(stamp.digits())
-    {
-        digits = now;
-    }
-    digits
-}
-
 /// The figures of this moment.
 fn figures_of<R: Wait + Clock + AllocGlobal>(hub: &Hub<'_, R>) -> Result<Figures, AllocError> {
     let Counters {
@@ -144,7 +133,7 @@ fn figures_of<R: Wait + Clock + AllocGlobal>(hub: &Hub<'_, R>) -> Result<Figures
         refused,
     } = hub.watch.seen(hub.rt, hub.rt.alloc())?;
     Ok(Figures {
-        time: time_of(hub.rt),
+        time: time_in(stamp_of(hub.rt, None).unwrap_or(hub.start).digits()),
         rounds,
         plan: version,
         accepted,

@@ -1,7 +1,7 @@
 //! The receivers of a gateway: those of its plan in the plan's order, and behind them those that are gone from the plan, while something waits for them.
 use crate::ended::Ended;
 use crate::files::read_all;
-use crate::gateway::folder::{Folder, unwritten, write_file};
+use crate::gateway::folder::{Folder, or_unwritten, write_file};
 use crate::gateway::hub::{Destination, Hub, number_in};
 use crate::gateway::outgoing::Outgoing;
 use crate::gateway::row::{Place, RowFault};
@@ -105,10 +105,7 @@ fn keep_address<'a, R: Files<File = File> + AllocGlobal>(
     {
         return Ok(());
     }
-    match write_file(rt, &spool, ADDRESS, &to.address) {
-        Ok(()) => Ok(()),
-        Err(error) => Err(unwritten(alloc, &spool, &error)),
-    }
+    or_unwritten(alloc, &spool, write_file(rt, &spool, ADDRESS, &to.address))
 }
 
 /// A receiver of this name and address.
@@ -178,10 +175,7 @@ impl<'f> Receivers<'f> {
             keep_address(rt, folder, &to)?;
             receivers.push(to, spool)?;
         }
-        let names = match names_in(rt, folder) {
-            Ok(names) => names,
-            Err(error) => return Err(unwritten(alloc, &folder.path, &error)),
-        };
+        let names = or_unwritten(alloc, &folder.path, names_in(rt, folder))?;
         for name in &names {
             if number_in(&receivers.destinations, name.as_bytes()).is_none()
                 && let Some((to, spool)) = open_gone(rt, folder, name)?
@@ -189,10 +183,8 @@ impl<'f> Receivers<'f> {
                 receivers.push(to, spool)?;
             }
         }
-        match folder.sync(rt, "spool") {
-            Ok(()) => Ok(receivers),
-            Err(error) => Err(unwritten(alloc, &folder.path, &error)),
-        }
+        or_unwritten(alloc, &folder.path, folder.sync(rt, "spool"))?;
+        Ok(receivers)
     }
 
     fn push(&mut self, to: Destination, spool: Outgoing<'f>) -> Result<(), AllocError> {
@@ -248,10 +240,8 @@ pub(crate) fn prepare<'f, 'a, R: Runtime + Wait>(
         keep_address(hub.rt, folder, &to)?;
         prepared.destinations.push(to)?;
     }
-    match folder.sync(hub.rt, "spool") {
-        Ok(()) => Ok(prepared),
-        Err(error) => Err(unwritten(alloc, &folder.path, &error)),
-    }
+    or_unwritten(alloc, &folder.path, folder.sync(hub.rt, "spool"))?;
+    Ok(prepared)
 }
 
 impl<'f> Prepared<'f> {

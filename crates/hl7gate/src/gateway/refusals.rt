@@ -1,6 +1,7 @@
 //! What is noted of each answer that isn't AA: a line of the log, which has the message's control id, and what the page shows, which hasn't.
 use crate::gateway::hub::Hub;
 use crate::gateway::watch::{Noted, Word};
+use crate::stamps::time_in;
 use gw_er7::{Message, Place, Segment, read};
 use gw_mllp::Decoder;
 use memchr::memmem::find;
@@ -153,17 +154,15 @@ fn put_error(line: &mut Vec<u8>, error: &Segment<'_>) -> Result<(), AllocError> 
     Ok(())
 }
 
-/// Adds the time of an answer, the session and the answer's number.
-fn put_header(line: &mut Vec<u8>, session: &str, header: &Segment<'_>) -> Result<(), AllocError> {
-    line.extend_from_slice(field_of(header, 7))?;
-    put(line, session.as_bytes())?;
-    put(line, field_of(header, 10))
-}
-
 /// Adds what the line of an answer has of a segment.
 fn put_segment(line: &mut Vec<u8>, session: &str, segment: &Segment<'_>) -> Result<(), AllocError> {
     match &segment.name() {
-        b"MSH" => put_header(line, session, segment),
+        // the time of the answer, the session and the answer's number
+        b"MSH" => {
+            line.extend_from_slice(field_of(segment, 7))?;
+            put(line, session.as_bytes())?;
+            put(line, field_of(segment, 10))
+        }
         b"MSA" => {
             put(line, field_of(segment, 2))?;
             put(line, field_of(segment, 1))
@@ -182,14 +181,6 @@ fn line_of(alloc: Global, session: u64, answer: &Message) -> Result<Vec<u8>, All
     }
     line.push(b'\n')?;
     Ok(line)
-}
-
-/// The time of an answer in fourteen digits, or zeros.
-fn time_of(digits: &[u8]) -> [u8; 14] {
-    match <[u8; 14]>::try_from(digits) {
-        Ok(time) => time,
-        Err(_) => [b'0'; 14],
-    }
 }
 
 fn word_of(text: &[u8]) -> Word {
@@ -229,7 +220,7 @@ fn noted_of(session: u64, answer: &Message) -> Noted {
         let segment = answer.segment(i);
         match &segment.name() {
             b"MSH" => {
-                noted.time = time_of(field_of(&segment, 7));
+                noted.time = time_in(field_of(&segment, 7));
                 noted.number = word_of(field_of(&segment, 10));
             }
             b"MSA" => noted.answer = word_of(field_of(&segment, 1)),

@@ -10,9 +10,10 @@ use gw_stream::RunFault;
 use memchr::memrchr;
 use std::alloc::{AllocError, Global};
 use std::fs::File;
-use std::io::{ErrorKind, Read};
+use std::io::{Eprint, ErrorKind, Read};
 use std::rt::Files;
 use std::sync::Wait;
+use std::time::Clock;
 use std::{fs, io};
 
 /// How many bytes of a file are read at once.
@@ -87,7 +88,7 @@ struct Put<'a, 'f, R: Wait> {
     appended: usize,
 }
 
-impl<R: Runtime + Wait> Put<'_, '_, R> {
+impl<R: Wait + Clock + Files<File = File> + Eprint + AllocGlobal> Put<'_, '_, R> {
     fn unless_failed(&self, done: Result<(), RowFault>) -> Result<(), Unsent> {
         match done {
             Ok(()) => Ok(()),
@@ -99,7 +100,7 @@ impl<R: Runtime + Wait> Put<'_, '_, R> {
     }
 }
 
-impl<R: Runtime + Wait> Taker for Put<'_, '_, R> {
+impl<R: Wait + Clock + Files<File = File> + Eprint + AllocGlobal> Taker for Put<'_, '_, R> {
     fn take(&mut self, _number: u64, content: &[u8]) -> Result<(), Unsent> {
         self.unless_failed(self.outgoing.put(self.rt, content))?;
         self.appended = self.appended.saturating_add(content.len());

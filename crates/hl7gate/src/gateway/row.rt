@@ -74,13 +74,6 @@ fn path_of(alloc: Global, folder: &str, number: u64) -> Result<String, AllocErro
     format!(in alloc; "{folder}/{number}")
 }
 
-fn fault_of(error: &io::Error) -> DeviceFault {
-    match error.kind() {
-        ErrorKind::OutOfMemory => DeviceFault::Memory,
-        _ => DeviceFault::Failed,
-    }
-}
-
 /// The numbers of the first and the last segment of a folder, which is made where it isn't there.
 fn numbers_in<R: Files + AllocGlobal + Clone + Drop>(
     rt: &R,
@@ -132,7 +125,8 @@ impl<'f, R: Files<File = File> + AllocGlobal> Folder<Mirror<Segment<'f>>> for Se
                 let reserve = self.place.reserve;
                 Ok(Mirror::new(self.rt.alloc(), Segment { file, reserve }, bytes)?)
             }
-            Err(error) => Err(fault_of(&error)),
+            Err(error) if error.kind() == ErrorKind::OutOfMemory => Err(DeviceFault::Memory),
+            Err(_) => Err(DeviceFault::Failed),
         }
     }
 

@@ -9,9 +9,10 @@ use crate::gateway::overlong::{is_overlong, reject};
 use crate::gateway::refusals::{Logged, TURN};
 use crate::gateway::safety::{Needs, Waiting};
 use crate::gateway::whole::{End, Held, Whole};
+use crate::sockets::pause;
 use crate::stamps::Utc;
 use crate::threads::{Service, print_counts};
-use gw_ack::Reply as Said;
+use gw_ack::{INTERNAL, Reply as Said};
 use gw_er7::Message;
 use gw_forward::Barrier;
 use gw_gate::{Event, Reply};
@@ -23,14 +24,7 @@ use std::io::Eprint;
 use std::net::{TcpListener, TcpStream};
 use std::sync::Wait;
 use std::sync::ledger::Ledger;
-use std::thread;
 use std::time::{Clock, Duration};
-
-/// How many milliseconds nothing is accepted behind a connection that can't be taken: no descriptor may be free.
-const PAUSE: u64 = 100;
-
-/// Application internal error (HL7 table 0357).
-const INTERNAL: u16 = 207;
 
 /// A way to the gate that notes what the session's answers have to wait for, and how many entries the journal has.
 #[derive(Drop)]
@@ -269,7 +263,7 @@ pub(crate) fn accept_all<R: Wait + AllocGlobal + Clock + Eprint>(
                     }
                 }
             }
-            Err(_) => thread::sleep(rt, Duration::from_millis(PAUSE)),
+            Err(_) => pause(rt),
         }
     }
 }

@@ -146,12 +146,6 @@ fn last_end(bytes: &[u8]) -> Option<usize> {
     None
 }
 
-/// Reads what comes first.
-fn read_some(stream: &TcpStream, piece: &mut [u8]) -> io::Result<usize> {
-    let mut stream = stream;
-    stream.read(piece)
-}
-
 /// Why a reader of whole messages came to its end.
 #[derive(Clone, Copy, PartialEq, Eq)]
 pub(crate) enum End {
@@ -230,7 +224,8 @@ impl<'a, 'f, R: Wait> Whole<'a, 'f, R> {
     // Reads a piece. False: the sender has ended its connection.
     fn fill(&mut self) -> io::Result<bool> {
         self.set_timeout();
-        match read_some(self.stream, &mut self.piece) {
+        let mut stream = self.stream;
+        match stream.read(&mut self.piece) {
             Ok(0) => Ok(false),
             Ok(count) => {
                 self.silent = 0;
