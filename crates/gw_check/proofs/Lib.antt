@@ -12,3 +12,4 @@ pub mod IdentityLevels
 pub mod IdentityReads
 pub mod Reaching
 pub mod IdentityReached
+pub mod Sharing

@@ -16,6 +16,11 @@ pub record CheckedValue : Type 0 where
   pub map : maps.Contents
   pub items : List Item
 
+-- two profiles between which maps are checked
+pub record BetweenValue : Type 0 where
+  pub source : profiles.Contents
+  pub target : profiles.Contents
+
 -- the map without labels
 abbrev pub resolved_map : CheckedValue → Resolved
 resolved_map c = resolved (profiles.profile_value c.source) (profiles.profile_value c.target) (maps.map_value c.map)

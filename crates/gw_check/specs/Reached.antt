@@ -1,5 +1,5 @@
 -- The rule on conditions and alternatives (13), by what the items walk.
-use Rattle.std.specs.Prelude.{ℕ, List, [], ◌∷◌, ◌++◌, flat_map, Option, Some, None}
+use Rattle.std.specs.Prelude.{ℕ, List, [], ◌++◌, flat_map, Option, Some, None}
 use Rattle.gw_profile.specs.Shapes.{ProfileValue}
 use Rattle.gw_resolve.specs.Failures.{Failure, at_line}
 use Rattle.gw_resolve.specs.Places.{Element, within, within_if}

@@ -47,7 +47,7 @@ impl CheckedMap {
     ghost use Rattle.std.specs.Prelude.{◌≡◌, ◌↔◌, IsTrue};
     ghost use Rattle.std.specs.Arc.{arc_value};
     ghost use Rattle.gw_profile.specs.Seen.{profile_value};
-    ghost use Rattle.gw_check.specs.Kept.{CheckedValue, IsChecked};
+    ghost use Rattle.gw_check.specs.Kept.{IsChecked};
 
     /// The map of these parts.
     pub(crate) fn of(

@@ -2,6 +2,7 @@
 #![tactic(auto)]
 
 mod accounted;
+mod between;
 mod checked;
 mod elements;
 mod failure;
@@ -21,6 +22,7 @@ mod site;
 mod texts;
 
 pub use accounted::FieldAt;
+pub use between::Between;
 pub use checked::CheckedMap;
 pub use elements::{comp_at, field_at, sub_at};
 pub use gw_leaves::{Presence, Shape, Values, included};

@@ -1,6 +1,5 @@
 //! The rules on how often a field, a segment or a group comes.
-ghost use Rattle.std.specs.Prelude.{◌≡◌, ◌&&◌, OnOk};
-ghost use Rattle.gw_validate.specs.Breaches.{is_forbidden};
+ghost use Rattle.std.specs.Prelude.{◌≡◌, OnOk};
 ghost use Rattle.gw_check.specs.Fields.{is_expected};
 ghost use Rattle.gw_check.specs.own.Seen as seen;
 ghost use Rattle.gw_resolve.specs.Intervals as intervals;

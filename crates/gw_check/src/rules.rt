@@ -12,14 +12,16 @@ ghost use Rattle.gw_check.specs.Sites.{sites};
 ghost use Rattle.gw_resolve.specs.Seen.{Notes, failures as seen_failures, all_items};
 ghost use Rattle.gw_check.specs.own.Seen as seen;
 ghost use Rattle.gw_leaves.specs.Context as spec;
+ghost use Rattle.gw_leaves.specs.own.Comparisons.{AreCompared};
 
+use crate::between::Between;
 use crate::checked::CheckedMap;
 use crate::failure::least;
 use crate::inside::check_items;
 use crate::level::check_level;
 use crate::overlooked::{SourceUse, passed_over};
 use crate::reached::reach_items;
-use gw_leaves::MapContext;
+use gw_leaves::{Compared, MapContext};
 use gw_maplang::Map;
 use gw_profile::{Level, Profile};
 use gw_resolve::{
@@ -98,14 +100,16 @@ fn add_failures(
 
 // What the rules from the fourth on find in a map without labels.
 fn find(
-    alloc: Global,
+    compared: &mut Compared,
     source: &Profile,
     target: &Profile,
     map: &Map,
     level: &Level<'_>,
     named: &ResolvedMap,
 ) -> Result<Findings, AllocError>
-    requires { level.now ≡ source.now.nodes }
+    requires level { level.now ≡ source.now.nodes }
+    requires compared { AreCompared source.now target.now compared.old }
+    ensures compared { AreCompared source.now target.now compared.new }
     ensures source { IfOk result (λ f. WellFormed (profile_value source.now)) }
     ensures target { IfOk result (λ f. WellFormed (profile_value target.now)) }
     ensures found { IfOk result (λ f.
@@ -114,7 +118,8 @@ fn find(
         fields_at f.used.unread.items ≡ seen.unread (spec.context_of source.now target.now map.now) named.now.items.items named.now.drops.items) }
     ensures made { IfOk result (λ f. all_sites map.now.tables f.used.sites.items ≡ sites (all_items map.now.tables named.now.items.items)) }
 {
-    let context = MapContext::of(alloc, source, target, map, level, &named.items)?;
+    let alloc = compared.alloc();
+    let context = MapContext::of(compared, source, target, map, level, &named.items)?;
     let mut found = Vec::new(alloc);
     let used = add_failures(
         alloc,
@@ -129,11 +134,13 @@ fn find(
 
 // What the rules say of a map; from the fourth on they are looked at only where 1 to 3 hold.
 fn look(
-    alloc: Global,
+    compared: &mut Compared,
     source: &Profile,
     target: &Profile,
     map: &Map,
 ) -> Result<Examined, AllocError>
+    requires { AreCompared source.now target.now compared.old }
+    ensures compared { AreCompared source.now target.now compared.new }
     ensures found { IfOk result (λ e. seen_failures e.findings.found.items
         ≡ all_failures (profile_value source.now) (profile_value target.now) (map_value map.now)) }
     ensures unread { IfOk result (λ e. fields_at e.findings.used.unread.items
@@ -141,6 +148,7 @@ fn look(
     ensures made { IfOk result (λ e. AreMade (profile_value source.now) (profile_value target.now) (map_value map.now) e.findings.used.sites.items) }
     ensures items { IfOk result (UnlabelledIfAllowed (profile_value source.now) (profile_value target.now) (map_value map.now)) }
 {
+    let alloc = compared.alloc();
     let from = Level::of(alloc, source)?;
     let to = Level::of(alloc, target)?;
     match resolve(alloc, source, target, &from, &to, map)? {
@@ -155,7 +163,7 @@ fn look(
             items: Vec::new(alloc),
         }),
         Resolving::Resolved(named) => Ok(Examined {
-            findings: find(alloc, source, target, map, &from, &named)?,
+            findings: find(compared, source, target, map, &from, &named)?,
             items: named.items,
         }),
     }
@@ -172,8 +180,38 @@ pub fn failures(
 ) -> Result<Vec<Failure>, AllocError>
     ensures { IfOk result (λ found. seen_failures found.items ≡ all_failures (profile_value source.now) (profile_value target.now) (map_value map.now)) }
 {
-    let examined = look(alloc, source, target, map)?;
+    let examined = look(&mut Compared::new(alloc), source, target, map)?;
     Ok(examined.findings.found)
+}
+
+// What `examine` answers, with what is found of the tables of these profiles.
+pub(crate) fn examine_by(
+    compared: &mut Compared,
+    source: Arc<Profile>,
+    target: Arc<Profile>,
+    map: Map,
+) -> Result<CheckedMap, Refusal>
+    requires { AreCompared (arc_value source) (arc_value target) compared.old }
+    ensures compared { AreCompared (arc_value source) (arc_value target) compared.new }
+    ensures allowed { IfOk result (λ c. all_failures (profile_value (arc_value source)) (profile_value (arc_value target)) (map_value map) ≡ []) }
+    ensures source { IfOk result (λ c. c.source ≡ arc_value source) }
+    ensures target { IfOk result (λ c. c.target ≡ arc_value target) }
+    ensures map { IfOk result (λ c. c.map ≡ map) }
+    ensures refused { IfErr result (IsTold (profile_value (arc_value source)) (profile_value (arc_value target)) (map_value map) map) }
+{
+    let Ok(examined) = look(compared, &source, &target, &map) else {
+        return Err(Refusal::Memory(map));
+    };
+    let Findings { found, used } = examined.findings;
+    match least(&found) {
+        None => Ok(CheckedMap::of(source, target, map, examined.items)),
+        Some(least) => Err(Refusal::Rules {
+            least,
+            found,
+            used,
+            map,
+        }),
+    }
 }
 
 /// The map with its profiles, where no rule fails, and else all failures: what `check` and `failures` answer, by one look at the map, with what else was found.
@@ -189,19 +227,7 @@ pub fn examine(
     ensures map { IfOk result (λ c. c.map ≡ map) }
     ensures refused { IfErr result (IsTold (profile_value (arc_value source)) (profile_value (arc_value target)) (map_value map) map) }
 {
-    let Ok(examined) = look(alloc, &source, &target, &map) else {
-        return Err(Refusal::Memory(map));
-    };
-    let Findings { found, used } = examined.findings;
-    match least(&found) {
-        None => Ok(CheckedMap::of(source, target, map, examined.items)),
-        Some(least) => Err(Refusal::Rules {
-            least,
-            found,
-            used,
-            map,
-        }),
-    }
+    examine_by(&mut Compared::new(alloc), source, target, map)
 }
 
 /// The map with its profiles, where no rule fails; else the map back, with the least rule that fails at its least line, or allocation failure.
@@ -218,13 +244,5 @@ pub fn check(
     ensures map { IfOk result (λ c. c.map ≡ map) }
     ensures refused { IfErr result (IsRefusal (profile_value (arc_value source)) (profile_value (arc_value target)) (map_value map) map) }
 {
-    match examine(alloc, source, target, map) {
-        Ok(checked) => Ok(checked),
-        Err(Refusal::Memory(map)) => Err(CheckFault::Memory(map)),
-        Err(Refusal::Rules { least, map, .. }) => Err(CheckFault::Rule {
-            rule: least.rule,
-            line: least.mark.line,
-            map,
-        }),
-    }
+    Between::new(alloc, source, target).check(map)
 }

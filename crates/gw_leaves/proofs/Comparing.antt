@@ -5,6 +5,9 @@ use Rattle.std.specs.List.{list_any}
 use Rattle.std.specs.Map.{lookup}
 use Rattle.std.specs.Global.{Vec}
 use Rattle.std.specs.Option.{option_eq}
+use Rattle.std.specs.Arc.{arc_value}
+use Rattle.std.specs.declared.alloc.Global.{Global}
+use Rattle.std.specs.declared.sync.Arc.{Arc}
 use Rattle.std.proofs.lemmas.Bool.Decides.{nat_tests}
 use Rattle.std.proofs.lemmas.List.Folds.{list_any-append, list_any_more}
 use Rattle.std.proofs.lemmas.Slice.Eq.{bytes_eq-Decides}
@@ -17,16 +20,17 @@ use Rattle.gw_profile.specs.Seen.{profile_value}
 use Rattle.gw_profile.specs.Shapes.{SubValue, ProfileValue}
 use Rattle.gw_profile.specs.Value.{table_of as table_in}
 use Rattle.gw_profile.proofs.Facts.{both}
+use Rattle.gw_maplang.specs.Seen as seen_maps
 use Rattle.gw_maplang.specs.Seen.{now}
 use Rattle.gw_maplang.specs.Shapes as maps
 use Rattle.gw_leaves.specs.declared.comparison.Found.{Found}
 use Rattle.gw_leaves.specs.declared.given.LeafSource.{LeafSource}
 use Rattle.gw_leaves.specs.Components.{table_values}
-use Rattle.gw_leaves.specs.Context.{ContextValue}
-use Rattle.gw_leaves.specs.Leaves.{listed, is_short, given, sub_values, has_no_row, may_be_unlisted, may_be_long}
+use Rattle.gw_leaves.specs.Context.{ContextValue, context_of}
+use Rattle.gw_leaves.specs.Leaves.{listed, is_short, sub_values, has_no_row, may_be_unlisted, may_be_long}
 use Rattle.gw_leaves.specs.Texts.{items_all}
 use Rattle.gw_leaves.specs.own.Held.{given_texts}
-use Rattle.gw_leaves.specs.own.Comparisons.{table_texts, values_named, rows_named, rowed, table_of, len_of, some_unrowed, is_unrowed, Origin, is_any, texts_in, given_at, given_by, all_given, fits, exceeds, is_outside, is_outside_named, holds_of, Lengths, size_of, some_length, Adds, AreOfValues, AreOfRows, AreUnlisted, AreLookedUp, Asks, some_values, Comparison, names_eq, comparisons_eq, IsCompared, IsFound, IsListed, AreKept, AreLists, Sized, is_lacking, is_missing, is_within, unrowed_by, IsListing, IsShortest}
+use Rattle.gw_leaves.specs.own.Comparisons.{table_texts, values_named, rows_named, rowed, table_of, len_of, some_unrowed, is_unrowed, Origin, is_any, texts_in, given_at, given_by, all_given, fits, exceeds, is_outside, is_outside_named, holds_of, Lengths, size_of, some_length, Adds, AreOfValues, AreOfRows, AreUnlisted, AreLookedUp, Asks, some_values, Comparison, names_eq, comparisons_eq, IsCompared, IsFound, IsListed, AreKept, AreLists, Copied, texts_eq, copies_eq, IsCopyOf, AreCopies, Sized, is_lacking, is_missing, is_within, unrowed_by, IsListing, IsShortest}
 use Rattle.gw_leaves.proofs.Inserted.{any_map, inserted}
 
 -- of a slice of texts
@@ -187,13 +191,13 @@ found_of s c found all listing is e = record {
 }
 
 -- one comparison more
-pub kept_more : (s : ContextValue) (x : Comparison) (found : Found) (old new : List (Comparison × Found))
+pub kept_more : (s : ContextValue) (x : Comparison) (found : Arc Found Global) (old new : List (Comparison × Arc Found Global))
     → ((c : Comparison) → lookup (comparisons_eq c) new ≡ cond (comparisons_eq x c) (Some found) (lookup (comparisons_eq c) old))
-    → IsFound s x found → AreKept s old → AreKept s new
+    → IsFound s x (arc_value found) → AreKept s old → AreKept s new
 kept_more s x found old new updates is h c f e = by (comparisons_eq x c) refl (e ∙ updates c)
   where
-    by : (b : Bool) → comparisons_eq x c ≡ b → Some f ≡ cond b (Some found) (lookup (comparisons_eq c) old) → IsFound s c f
-    by true same e = subst (IsFound s c) (sym (ap (λ o. unwrap_or o f) e)) (same_found s x c found same is)
+    by : (b : Bool) → comparisons_eq x c ≡ b → Some f ≡ cond b (Some found) (lookup (comparisons_eq c) old) → IsFound s c (arc_value f)
+    by true same e = subst (λ o. IsFound s c (arc_value o)) (sym (ap (λ o. unwrap_or o f) e)) (same_found s x c (arc_value found) same is)
     by false other e = h c f e
 
 pub listed_as : (s : ContextValue) (name : Option (Bor (List ℕ))) (count : Count) (texts : List (List ℕ)) (all : List Sized) → count ≡ s.source.count → texts ≡ values_named s.source.tables (now name)
@@ -203,8 +207,39 @@ listed_as s name count texts all e f h = λ test len. h test len ∙ (λ i. list
 pub no_lists : (s : ContextValue) (lists : List (Option (Bor (List ℕ)) × Vec Sized)) → lists ≡ [] → AreLists s lists
 no_lists s lists e name all f = absurd (true≢false (ap is_some f ∙ ap (λ l. is_some (lookup (option_eq names_eq name) l)) e))
 
-pub none_kept : (s : ContextValue) (known : List (Comparison × Found)) → known ≡ [] → AreKept s known
+pub none_kept : (s : ContextValue) (known : List (Comparison × Arc Found Global)) → known ≡ [] → AreKept s known
 none_kept s known e c found f = absurd (true≢false (ap is_some f ∙ ap (λ l. is_some (lookup (comparisons_eq c) l)) e))
+
+-- copies depend on the profiles alone
+same_text : (x y : Option (Vec ℕ)) → option_eq texts_eq x y ≡ true → option_map (λ (v : Vec ℕ). v.items) x ≡ option_map (λ (v : Vec ℕ). v.items) y
+same_text None None e = refl
+same_text (Some x) (Some y) e = ap Some ((bytes_eq-Decides x.items y.items).0 e)
+same_text x y e = grind arith
+
+same_copy : (s : ContextValue) (map : seen_maps.Contents) (c d : Comparison) (x k : Copied) (found : Found) → copies_eq x k ≡ true → IsCopyOf c x → IsCopyOf d k → IsFound s c found
+    → IsFound (context_of s.source s.target map) d found
+same_copy s map c d x k found e of also h =
+    let b = both _ _ e in
+    let other = context_of s.source s.target map in
+    let listed : now c.0.1 ≡ now d.0.1 = of.listed ∙ ap Some ((bytes_eq-Decides x.0.items k.0.items).0 b.0) ∙ sym also.listed in
+    let name : now c.1 ≡ now d.1 = of.name ∙ same_text x.1 k.1 b.1 ∙ sym also.name in
+    record {
+      lengths = λ len most asks.
+          h.lengths len most (subst (λ n. Asks n most) (sym name) asks)
+          ∙ (λ i. list_any (is_outside_named s (name i) most) (given_at s (of.rows i) (listed i) len))
+          ∙ (λ i. list_any (is_outside_named other (now d.1) most) (given_at other (sym also.rows i) (now d.0.1) len));
+      unrowed = λ rows there. absurd (true≢false (sym (ap is_some there) ∙ ap is_some also.rows));
+    }
+
+-- one copy more
+pub copies_more : (s : ContextValue) (c : Comparison) (x : Copied) (found : Arc Found Global) (old new : List (Copied × Arc Found Global))
+    → ((k : Copied) → lookup (copies_eq k) new ≡ cond (copies_eq x k) (Some found) (lookup (copies_eq k) old))
+    → IsCopyOf c x → IsFound s c (arc_value found) → AreCopies s.source s.target old → AreCopies s.source s.target new
+copies_more s c x found old new updates of is h k f e map d also = by (copies_eq x k) refl (e ∙ updates k)
+  where
+    by : (b : Bool) → copies_eq x k ≡ b → Some f ≡ cond b (Some found) (lookup (copies_eq k) old) → IsFound (context_of s.source s.target map) d (arc_value f)
+    by true same e = subst (λ o. IsFound (context_of s.source s.target map) d (arc_value o)) (sym (ap (λ o. unwrap_or o f) e)) (same_copy s map c d x k (arc_value found) same of also is)
+    by false other e = h k f e map d also
 
 -- one list more
 pub listed_more : (s : ContextValue) (x : Option (Bor (List ℕ))) (all : Vec Sized) (old new : List (Option (Bor (List ℕ)) × Vec Sized))

@@ -1,5 +1,6 @@
 //! A map with its profiles, while it is checked.
 
+use crate::compared::Compared;
 use crate::comparison::{
     Comparison, Found, Origin, compare, is_within, listed_in, some_length, values_of,
 };
@@ -11,6 +12,7 @@ use gw_resolve::{Item, ScopeNode};
 use indexmap::{IndexMap, IndexSet};
 use std::alloc::{AllocError, Global};
 use std::marker::Model;
+use std::sync::Arc;
 
 /// A map with its profiles, and what is found of the tables that it brings together.
 pub struct MapContext<'a> {
@@ -18,7 +20,7 @@ pub struct MapContext<'a> {
     source: &'a Profile,
     target: &'a Profile,
     map: &'a Map,
-    known: IndexMap<Comparison<'a>, Found>,
+    known: IndexMap<Comparison<'a>, Arc<Found>>,
 }
 
 // (by hand, so that no crate above proves again how its fields are dropped)
@@ -54,21 +56,25 @@ impl<'a> MapContext<'a> {
     ghost use Rattle.std.specs.Prelude.{◌≡◌, IfOk, OnOk, Some};
     ghost use Rattle.std.specs.List.{list_any};
     ghost use Rattle.gw_maplang.specs.Seen.{now};
-    ghost use Rattle.gw_leaves.specs.own.Comparisons.{AreLists, Asks, IsFound, is_outside_named, given_at, rows_named, some_unrowed, values_named};
+    ghost use Rattle.std.specs.Arc.{arc_value};
+    ghost use Rattle.gw_leaves.specs.own.Comparisons.{AreCompared, AreLists, Asks, IsFound, is_outside_named, given_at, rows_named, some_unrowed, values_named};
     ghost use Rattle.gw_leaves.specs.Context.{context_of};
 
     /// The map with its profiles, and what is found of the tables that its items bring together, where this is the level of the source's nodes.
-    /// The one error is allocation failure.
+    /// Copies of texts that were compared before aren't compared again, and those that weren't are kept. The one error is allocation failure.
     pub fn of(
-        alloc: Global,
+        compared: &mut Compared,
         source: &'a Profile,
         target: &'a Profile,
         map: &'a Map,
         level: &'a Level<'_>,
         items: &'a [Item],
     ) -> Result<MapContext<'a>, AllocError>
-        ensures { IfOk result (λ context. context ≡ context_of source.now target.now map.now) }
+        requires { AreCompared source.now target.now compared.old }
+        ensures context { IfOk result (λ context. context ≡ context_of source.now target.now map.now) }
+        ensures compared { AreCompared source.now target.now compared.new }
     {
+        let alloc = compared.alloc();
         let context = MapContext {
             alloc,
             source,
@@ -79,7 +85,7 @@ impl<'a> MapContext<'a> {
         let mut comparisons = IndexSet::new(alloc);
         let (scope, nodes) = ([ScopeNode::Whole(Some(level))], target.nodes());
         add_items(alloc, &mut comparisons, &context, &scope, nodes, items)?;
-        context.knowing(comparisons)
+        context.knowing(compared, comparisons)
     }
 
     // Lists the source's table of this name, if it isn't listed.
@@ -134,15 +140,42 @@ impl<'a> MapContext<'a> {
         )
     }
 
+    // What is found by a comparison: what was kept, or what is found now, which is kept where it depends on the profiles alone.
+    fn recall_or_find(
+        &self,
+        compared: &mut Compared,
+        lists: &mut IndexMap<Option<&'a [u8]>, Listing<'a>>,
+        comparison: Comparison<'a>,
+    ) -> Result<Arc<Found>, AllocError>
+        requires lists { AreLists self.now lists.old.entries }
+        requires compared { AreCompared self.now.source self.now.target compared.old }
+        ensures lists { OnOk result (AreLists self.now lists.new.entries) }
+        ensures compared { AreCompared self.now.source self.now.target compared.new }
+        ensures found { IfOk result (λ found. IsFound self.now comparison.entry (arc_value found)) }
+    {
+        if let Some(kept) = compared.recalled(comparison)? {
+            return Ok(kept);
+        }
+        self.list(lists, comparison.0.1)?;
+        let found = Arc::new(self.alloc, self.find(lists, comparison)?)?;
+        compared.keep(comparison, &found)?;
+        Ok(found)
+    }
+
     // The same, with what is found by these comparisons.
-    fn knowing(&self, comparisons: IndexSet<Comparison<'a>>) -> Result<MapContext<'a>, AllocError>
-        ensures { IfOk result (λ s. s ≡ self.now) }
+    fn knowing(
+        &self,
+        compared: &mut Compared,
+        comparisons: IndexSet<Comparison<'a>>,
+    ) -> Result<MapContext<'a>, AllocError>
+        requires { AreCompared self.now.source self.now.target compared.old }
+        ensures context { IfOk result (λ s. s ≡ self.now) }
+        ensures compared { AreCompared self.now.source self.now.target compared.new }
     {
         let mut lists = IndexMap::new(self.alloc);
         let mut known = IndexMap::with_capacity(self.alloc, comparisons.len())?;
         for comparison in comparisons {
-            self.list(&mut lists, comparison.0.1)?;
-            let found = self.find(&lists, comparison)?;
+            let found = self.recall_or_find(compared, &mut lists, comparison)?;
             known.insert(comparison, found)?;
         }
         Ok(MapContext {

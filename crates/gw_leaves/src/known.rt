@@ -1,6 +1,5 @@
 //! The segments at the places of a map, and their fields.
 ghost use Rattle.std.specs.Prelude.{◌≡◌, map, List};
-ghost use Rattle.gw_profile.specs.Seen.{field};
 ghost use Rattle.gw_leaves.specs.Leaves as spec;
 ghost use Rattle.gw_resolve.specs.Places as places;
 ghost use Rattle.gw_leaves.specs.own.Held.{known_value, saturated_known};

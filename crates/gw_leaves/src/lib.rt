@@ -1,6 +1,7 @@
 //! What a source can give at a place, and what a field, a component or a subcomponent of the target asks there.
 #![tactic(auto)]
 
+mod compared;
 mod comparison;
 mod context;
 mod count;
@@ -24,6 +25,7 @@ mod sources;
 mod texts;
 mod values;
 
+pub use compared::Compared;
 pub use comparison::values_of;
 pub use context::MapContext;
 pub use count::rule_count;

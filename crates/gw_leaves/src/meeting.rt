@@ -10,8 +10,7 @@ use crate::places::enter_if;
 use crate::sources::Sources;
 use gw_profile::{FieldShape, Node, SubShape, comp_of, field_of, sub_of};
 use gw_resolve::{
-    At, Item, Making, ResolvedLeaf, Rule, ScopeNode, SegmentItem, Source, enter, fields_at,
-    nodes_within,
+    At, Item, Making, ResolvedLeaf, ScopeNode, SegmentItem, enter, fields_at, nodes_within,
 };
 use indexmap::IndexSet;
 use std::alloc::{AllocError, Global};

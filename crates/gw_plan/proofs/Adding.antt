@@ -4,7 +4,7 @@ use Rattle.std.specs.Prelude.{IfOk, OnOk, not, is_some, ◌||◌, bytes_eq}
 use Rattle.std.specs.List.{list_any, AllByRecursion}
 use Rattle.std.specs.Map.{lookup, keys_of}
 use Rattle.std.specs.Global.{Vec}
-use Rattle.std.proofs.lemmas.List.{append_assoc, append-nil, map-append, take_more, take-map, drop-map, take_all, drop_all}
+use Rattle.std.proofs.lemmas.List.{append_assoc, map-append, take_more, take-map, drop-map, take_all, drop_all}
 use Rattle.std.proofs.lemmas.Map.Made.{is_some-lookup}
 use denote.Ref.{Bor}
 use Rattle.gw_plan.specs.declared.index.Index.{Index}
@@ -97,21 +97,7 @@ module _ (old now : Index) (pair : ℕ × ℕ) (field number : ℕ) (words : Lis
   all_found =
       subst (λ (l : List (Slot × ℕ)). AreFound now (slots ++ l)) (ap (λ ws. map (slot_of code event field number) ws) (take_all i words all) ∙ sym (slots_are code event field number words)) (a.so_far slots code event z p).found
 
--- nothing is added yet
-pub at_first : (self : Index) (pair : ℕ × ℕ) (field number : ℕ) (words : List (List ℕ)) → Adding self self pair field number words 0
-at_first self pair field number words = record {
-  beside = record { codes = refl; events = refl };
-  so_far = λ slots code event z p. record {
-    found = subst (AreFound self) (sym (append-nil slots)) z;
-    is_pair = p;
-    left = ap (λ (l : List (Slot × ℕ)). again (λ v. taken_by code event field number l v) words) (append-nil slots);
-  };
-}
-
 -- ---- a route more
-
-beside_pair : (old new : Index) → IsBeside old new → (pair : ℕ × ℕ) (code event : List ℕ) → IsPair old pair code event → IsPair new pair code event
-beside_pair old new b pair code event p = record { code_is = ap (at code) b.codes ∙ p.code_is; event_is = ap (at event) b.events ∙ p.event_is }
 
 module _ (old paired : Index) (pair : ℕ × ℕ) (code event : List ℕ) (n : Numbers old paired pair code event) (keys : List Key) (x : Indexes old keys) where
   pub found_still : AreFound paired (slots_from 0 keys)

@@ -1,5 +1,5 @@
 -- What an index of routes finds.
-use Rattle.std.proofs.Common.{◌≡◌, ℕ, ◌+◌, List, [], ◌∷◌, ◌++◌, length, Option, Some, None, Bool, true, false, refl, sym, ap, ◌∙◌, subst, arith, eq-eqb, ap₂}
+use Rattle.std.proofs.Common.{◌≡◌, ℕ, ◌+◌, List, [], ◌∷◌, ◌++◌, length, Option, Some, None, Bool, true, false, refl, sym, ap, ◌∙◌, subst, arith, eq-eqb}
 use Rattle.std.specs.Prelude.{not, ◌||◌, position, if◌then◌else◌, bytes_eq, nat_eq}
 use Rattle.std.specs.List.{list_any, AllZip, AllByRecursion, position_or_len, position_from}
 use Rattle.std.specs.Global.{Vec}
@@ -36,12 +36,6 @@ word_test one other words i j a b = by (nat_eq i j) (bytes_eq one other) refl re
     by false true e f = sym e ∙ eq-eqb i j (some_same (sym a ∙ ap (λ w. at w words) ((bytes_eq-Decides one other).0 f) ∙ b))
 
 -- ---- lists tested side by side
-
-pub zip_any : {A B : Type 0} (t : A → Bool) (u : B → Bool) (xs : List A) (ys : List B) → AllZip (λ x y. t x ≡ u y) xs ys → list_any t xs ≡ list_any u ys
-zip_any t u [] [] z = refl
-zip_any t u [] (y ∷ ys) z = absurd z
-zip_any t u (x ∷ xs) [] z = absurd z
-zip_any t u (x ∷ xs) (y ∷ ys) z = ap₂ (λ a b. a || b) z.0 (zip_any t u xs ys z.1)
 
 pub none_from : {A : Type 0} (t : A → Bool) (n : ℕ) (xs : List A) → list_any t xs ≡ false → position_from t n xs ≡ None
 none_from t n [] e = refl

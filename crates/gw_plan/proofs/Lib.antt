@@ -8,6 +8,7 @@ pub mod Routes
 pub mod Sendings
 pub mod Alike
 pub mod Standing
+pub mod Sharing
 pub mod Rejoined
 pub mod FirstLines
 pub mod Earliest

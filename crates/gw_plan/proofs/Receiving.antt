@@ -17,10 +17,6 @@ found_from name n (e ∷ es) = ap (λ o. if bytes_eq name e.0.items then Some n 
 pub number_found : (name : List ℕ) (es : List (Vec ℕ × Vec ℕ)) → position (λ k. bytes_eq name k.items) (keys_of es) ≡ position (is_receiver name) (map receiver_entry es)
 number_found name es = position_from-zero (λ (k : Vec ℕ). bytes_eq name k.items) (keys_of es) ∙ found_from name 0 es ∙ sym (position_from-zero (is_receiver name) (map receiver_entry es))
 
-map_push : {A B : Type 0} (f : A → B) (xs : List A) (x : A) → map f (xs ++ x ∷ []) ≡ map f xs ++ f x ∷ []
-map_push f [] x = refl
-map_push f (y ∷ xs) x = ap (λ l. f y ∷ l) (map_push f xs x)
-
 put_from : (n : ℕ) (es : List (Vec ℕ × Vec ℕ)) (name address : Vec ℕ) → is_none (position_from (is_receiver name.items) n (map receiver_entry es)) ≡ true
     → map receiver_entry (insert_entry (λ x y. bytes_eq x.items y.items) es name address) ≡ map receiver_entry es ++ record { name = name.items; address = address.items } ∷ []
 put_from n [] name address new = refl

@@ -14,10 +14,6 @@ use Rattle.gw_plan.proofs.Soonest.{sooner_from, same_from}
 
 -- ---- bools
 
-or_assoc : (a b c : Bool) → (a || b) || c ≡ a || (b || c)
-or_assoc true b c = refl
-or_assoc false b c = refl
-
 or_false : (a : Bool) → a || false ≡ a
 or_false true = refl
 or_false false = refl

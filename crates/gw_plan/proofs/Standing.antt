@@ -14,10 +14,10 @@ use Rattle.gw_profile.specs.Seen as profiles
 use Rattle.gw_profile.specs.Seen.{profile_value}
 use Rattle.gw_profile.specs.Shapes.{ProfileValue}
 use Rattle.gw_maplang.specs.Seen as maps
-use Rattle.gw_check.specs.Kept.{CheckedValue}
+use Rattle.gw_check.specs.Kept.{CheckedValue, BetweenValue}
 use Rattle.gw_plan.specs.Shapes.{MapBetween, named}
 use Rattle.gw_plan.specs.Held.{map_between}
-use Rattle.gw_plan.specs.Declarations.{AreDeclared, BeginsAt, named_profile, named_map}
+use Rattle.gw_plan.specs.Declarations.{AreDeclared, BeginsAt, Names, named_profile, named_map}
 use Rattle.gw_plan.specs.own.Made.{IsCheckedSo, IsTaken}
 use Rattle.gw_plan.proofs.Keys.{some_same}
 
@@ -107,26 +107,32 @@ inserted f g name_of es key x keyed new =
 abbrev Held : List (List ℕ × profiles.Contents) → List ProfileValue
 Held ps = map (λ p. profile_value p.1) ps
 
-begins_still : (ps : List (List ℕ × profiles.Contents)) (name : List ℕ) (p : profiles.Contents) (m : CheckedValue) → BeginsAt (Held ps) m → BeginsAt (Held (ps ++ (name, p) ∷ [])) m
-begins_still ps name p m h =
-    rw map-append (named_more (λ (p : ProfileValue). p.name) m.source.name (Held ps) (profile_value p ∷ []) (profile_value m.source) h)
+-- what has a name still has it
+named_still : (ps : List (List ℕ × profiles.Contents)) (name : List ℕ) (p : profiles.Contents) (of : List ℕ) (value : ProfileValue) → named_profile of (Held ps) ≡ Some value
+    → named_profile of (Held (ps ++ (name, p) ∷ [])) ≡ Some value
+named_still ps name p of value h = rw map-append (named_more (λ (p : ProfileValue). p.name) of (Held ps) (profile_value p ∷ []) value h)
 
-pub profile_added : (ps : List (List ℕ × profiles.Contents)) (ms : List (List ℕ × CheckedValue)) (name : List ℕ) (p : profiles.Contents) → name ≡ p.name → AreDeclared ps ms
-    → AreDeclared (ps ++ (name, p) ∷ []) ms
-profile_added ps ms name p e is = record {
+pub profile_added : (ps : List (List ℕ × profiles.Contents)) (ms : List (List ℕ × CheckedValue)) (bs : List (Names × BetweenValue)) (name : List ℕ) (p : profiles.Contents) → name ≡ p.name
+    → AreDeclared ps ms bs → AreDeclared (ps ++ (name, p) ∷ []) ms bs
+profile_added ps ms bs name p e is = record {
   profile_names = all_push (λ (e : List ℕ × profiles.Contents). e.0 ≡ e.1.name) ps (name, p) is.profile_names e;
   map_names = is.map_names;
   sources =
       all_weaken (λ (e : List ℕ × CheckedValue). BeginsAt (Held ps) e.1) (λ (e : List ℕ × CheckedValue). BeginsAt (Held (ps ++ (name, p) ∷ [])) e.1) ms
-      (λ e h. begins_still ps name p e.1 h) is.sources;
+      (λ e h. named_still ps name p e.1.source.name (profile_value e.1.source) h) is.sources;
+  between = λ k b e. (let h = is.between k b e in record {
+    source_is = named_still ps name p k.0.items (profile_value b.source) h.source_is;
+    target_is = named_still ps name p k.1.items (profile_value b.target) h.target_is;
+  });
 }
 
-pub map_added : (ps : List (List ℕ × profiles.Contents)) (ms : List (List ℕ × CheckedValue)) (name : List ℕ) (m : CheckedValue) → name ≡ m.map.name
-    → BeginsAt (map (λ p. profile_value p.1) ps) m → AreDeclared ps ms → AreDeclared ps (ms ++ (name, m) ∷ [])
-map_added ps ms name m e begins is = record {
+pub map_added : (ps : List (List ℕ × profiles.Contents)) (ms : List (List ℕ × CheckedValue)) (bs : List (Names × BetweenValue)) (name : List ℕ) (m : CheckedValue) → name ≡ m.map.name
+    → BeginsAt (map (λ p. profile_value p.1) ps) m → AreDeclared ps ms bs → AreDeclared ps (ms ++ (name, m) ∷ []) bs
+map_added ps ms bs name m e begins is = record {
   profile_names = is.profile_names;
   map_names = all_push (λ (e : List ℕ × CheckedValue). e.0 ≡ e.1.map.name) ms (name, m) is.map_names e;
   sources = all_push (λ (e : List ℕ × CheckedValue). BeginsAt (map (λ p. profile_value p.1) ps) e.1) ms (name, m) is.sources begins;
+  between = is.between;
 }
 
 -- ---- one more
@@ -135,31 +141,31 @@ same_key : {X : Type 0} (name_of : X → List ℕ) (xs : List X) {one other : Li
 same_key name_of xs e none = ap (λ name. named name_of name xs) e ∙ none
 
 -- the entries with a profile that is new
-pub profile_put : {A : Type 0} (g : A → profiles.Contents) (es new : List (Vec ℕ × A)) (ms : List (List ℕ × CheckedValue)) (key : Vec ℕ) (x : A) → key.items ≡ (g x).name
-    → AreDeclared (map (λ e. (e.0.items, g e.1)) es) ms → named_profile (g x).name (map profile_value (map (λ e. g e.1) es)) ≡ None
+pub profile_put : {A : Type 0} (g : A → profiles.Contents) (es new : List (Vec ℕ × A)) (ms : List (List ℕ × CheckedValue)) (bs : List (Names × BetweenValue)) (key : Vec ℕ) (x : A) → key.items ≡ (g x).name
+    → AreDeclared (map (λ e. (e.0.items, g e.1)) es) ms bs → named_profile (g x).name (map profile_value (map (λ e. g e.1) es)) ≡ None
     → new ≡ insert_entry (λ k l. bytes_eq k.items l.items) es key x → new ≡ es ++ (key, x) ∷ []
-profile_put g es new ms key x e is none put = put ∙ inserted profile_value g (λ (p : ProfileValue). p.name) es key x is.profile_names (same_key (λ (p : ProfileValue). p.name) _ e none)
+profile_put g es new ms bs key x e is none put = put ∙ inserted profile_value g (λ (p : ProfileValue). p.name) es key x is.profile_names (same_key (λ (p : ProfileValue). p.name) _ e none)
 
-pub profile_kept : {A : Type 0} (g : A → profiles.Contents) (es new : List (Vec ℕ × A)) (ms : List (List ℕ × CheckedValue)) (key : Vec ℕ) (x : A) → key.items ≡ (g x).name → new ≡ es ++ (key, x) ∷ []
-    → AreDeclared (map (λ e. (e.0.items, g e.1)) es) ms → AreDeclared (map (λ e. (e.0.items, g e.1)) new) ms
-profile_kept g es new ms key x e put is = rw put (rw map-append (profile_added (map (λ e. (e.0.items, g e.1)) es) ms key.items (g x) e is))
+pub profile_kept : {A : Type 0} (g : A → profiles.Contents) (es new : List (Vec ℕ × A)) (ms : List (List ℕ × CheckedValue)) (bs : List (Names × BetweenValue)) (key : Vec ℕ) (x : A) → key.items ≡ (g x).name → new ≡ es ++ (key, x) ∷ []
+    → AreDeclared (map (λ e. (e.0.items, g e.1)) es) ms bs → AreDeclared (map (λ e. (e.0.items, g e.1)) new) ms bs
+profile_kept g es new ms bs key x e put is = rw put (rw map-append (profile_added (map (λ e. (e.0.items, g e.1)) es) ms bs key.items (g x) e is))
 
 pub one_more : {A B : Type 0} (g : A → B) (es new : List (Vec ℕ × A)) (key : Vec ℕ) (x : A) → new ≡ es ++ (key, x) ∷ [] → map (λ e. g e.1) new ≡ map (λ e. g e.1) es ++ g x ∷ []
 one_more {A} g es new key x put = ap (map (λ (e : Vec ℕ × A). g e.1)) put ∙ map-append (λ (e : Vec ℕ × A). g e.1) es ((key, x) ∷ [])
 
 -- the same with a map
-pub map_put : {A : Type 0} (g : A → CheckedValue) (es new : List (Vec ℕ × A)) (ps : List (List ℕ × profiles.Contents)) (key : Vec ℕ) (x : A) → key.items ≡ (g x).map.name
-    → AreDeclared ps (map (λ e. (e.0.items, g e.1)) es) → named_map (g x).map.name (map map_between (map (λ e. g e.1) es)) ≡ None
+pub map_put : {A : Type 0} (g : A → CheckedValue) (es new : List (Vec ℕ × A)) (ps : List (List ℕ × profiles.Contents)) (bs : List (Names × BetweenValue)) (key : Vec ℕ) (x : A)
+    → key.items ≡ (g x).map.name → AreDeclared ps (map (λ e. (e.0.items, g e.1)) es) bs → named_map (g x).map.name (map map_between (map (λ e. g e.1) es)) ≡ None
     → new ≡ insert_entry (λ k l. bytes_eq k.items l.items) es key x → new ≡ es ++ (key, x) ∷ []
-map_put g es new ps key x e is none put = put ∙ inserted map_between g (λ (b : MapBetween). b.map.name) es key x is.map_names (same_key (λ (b : MapBetween). b.map.name) _ e none)
+map_put g es new ps bs key x e is none put = put ∙ inserted map_between g (λ (b : MapBetween). b.map.name) es key x is.map_names (same_key (λ (b : MapBetween). b.map.name) _ e none)
 
-pub map_kept : {A B : Type 0} (f : B → profiles.Contents) (g : A → CheckedValue) (qs : List (Vec ℕ × B)) (es new : List (Vec ℕ × A)) (key : Vec ℕ) (x : A) → key.items ≡ (g x).map.name
-    → new ≡ es ++ (key, x) ∷ []
-    → BeginsAt (map profile_value (map (λ e. f e.1) qs)) (g x) → AreDeclared (map (λ e. (e.0.items, f e.1)) qs) (map (λ e. (e.0.items, g e.1)) es)
-    → AreDeclared (map (λ e. (e.0.items, f e.1)) qs) (map (λ e. (e.0.items, g e.1)) new)
-map_kept f g qs es new key x e put begins is =
+pub map_kept : {A B : Type 0} (f : B → profiles.Contents) (g : A → CheckedValue) (qs : List (Vec ℕ × B)) (es new : List (Vec ℕ × A)) (bs : List (Names × BetweenValue)) (key : Vec ℕ) (x : A)
+    → key.items ≡ (g x).map.name → new ≡ es ++ (key, x) ∷ []
+    → BeginsAt (map profile_value (map (λ e. f e.1) qs)) (g x) → AreDeclared (map (λ e. (e.0.items, f e.1)) qs) (map (λ e. (e.0.items, g e.1)) es) bs
+    → AreDeclared (map (λ e. (e.0.items, f e.1)) qs) (map (λ e. (e.0.items, g e.1)) new) bs
+map_kept f g qs es new bs key x e put begins is =
     let held = subst (λ (ps : List ProfileValue). BeginsAt ps (g x)) (sym (held_values profile_value f qs)) begins in
-    rw put (rw map-append (map_added (map (λ e. (e.0.items, f e.1)) qs) (map (λ e. (e.0.items, g e.1)) es) key.items (g x) e held is))
+    rw put (rw map-append (map_added (map (λ e. (e.0.items, f e.1)) qs) (map (λ e. (e.0.items, g e.1)) es) bs key.items (g x) e held is))
 
 -- what was checked begins at the profile that its map names
 pub taken_so : (ps : List ProfileValue) (source target : profiles.Contents) (m : maps.Contents) (checked given : CheckedValue) → given ≡ checked → IsCheckedSo source target m checked

@@ -1,10 +1,12 @@
 -- The profiles and maps that a plan has declared so far.
-use Rattle.std.specs.Prelude.{◌≡◌, ℕ, List, [], ◌∷◌, ◌++◌, map, Option, Some, None}
+use Rattle.std.specs.Prelude.{◌≡◌, ℕ, Bool, ◌&&◌, List, [], ◌∷◌, ◌++◌, map, Option, Some, None, bytes_eq}
 use Rattle.std.specs.List.{AllByRecursion}
+use Rattle.std.specs.Map.{lookup}
+use Rattle.std.specs.Global.{Vec}
 use Rattle.gw_profile.specs.Seen as profiles
 use Rattle.gw_profile.specs.Seen.{profile_value}
 use Rattle.gw_profile.specs.Shapes.{ProfileValue}
-use Rattle.gw_check.specs.Kept.{CheckedValue}
+use Rattle.gw_check.specs.Kept.{CheckedValue, BetweenValue}
 use Rattle.gw_plan.specs.Shapes.{MapBetween, named}
 use Rattle.gw_plan.specs.Held.{map_between}
 
@@ -51,8 +53,24 @@ pub record IsNewMap (a : DeclarationsHeld) (m : CheckedValue) : Type 0 where
 
 -- ---- as the program holds them
 
--- each is held by its own name, and each map begins at a profile that is held
-pub record AreDeclared (profiles : List (List ℕ × profiles.Contents)) (maps : List (List ℕ × CheckedValue)) : Type 0 where
+-- it is between the profiles of these names
+pub record IsBetween (profiles : List ProfileValue) (source target : List ℕ) (b : BetweenValue) : Type 0 where
+  pub source_is : named_profile source profiles ≡ Some (profile_value b.source)
+  pub target_is : named_profile target profiles ≡ Some (profile_value b.target)
+
+abbrev pub Names : Type 0
+Names = Vec ℕ × Vec ℕ
+
+abbrev pub names_eq : Names → Names → Bool
+names_eq x y = bytes_eq x.0.items y.0.items && bytes_eq x.1.items y.1.items
+
+-- each is kept by the names of its profiles
+abbrev pub AreBetween : List ProfileValue → List (Names × BetweenValue) → Type 0
+AreBetween profiles kept = (k : Names) (b : BetweenValue) → Some b ≡ lookup (names_eq k) kept → IsBetween profiles k.0.items k.1.items b
+
+-- each is held by its own name, each map begins at a profile that is held, and maps are checked between such profiles
+pub record AreDeclared (profiles : List (List ℕ × profiles.Contents)) (maps : List (List ℕ × CheckedValue)) (kept : List (Names × BetweenValue)) : Type 0 where
   pub profile_names : AllByRecursion (λ e. e.0 ≡ e.1.name) profiles
   pub map_names : AllByRecursion (λ e. e.0 ≡ e.1.map.name) maps
   pub sources : AllByRecursion (λ e. BeginsAt (map (λ p. profile_value p.1) profiles) e.1) maps
+  pub between : AreBetween (map (λ p. profile_value p.1) profiles) kept

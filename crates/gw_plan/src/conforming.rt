@@ -11,7 +11,7 @@ ghost use Rattle.gw_plan.specs.Routing.{routed};
 ghost use Rattle.gw_plan.specs.Seen.{receiver_value};
 ghost use Rattle.gw_plan.specs.Whole.{spelled};
 ghost use Rattle.gw_plan.specs.Within.{IsWithin};
-ghost use Rattle.gw_plan.specs.Admitted.{ConformingHeld, IsConforming, IsAdmitted, IsRefused, IsSameSource, IsUnder, IsOf};
+ghost use Rattle.gw_plan.specs.Admitted.{IsConforming, IsAdmitted, IsRefused, IsSameSource, IsUnder, IsOf};
 ghost use Rattle.gw_plan.specs.Translating.{Translates};
 
 use crate::plan::{Plan, Receiver};

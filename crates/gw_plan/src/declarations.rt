@@ -1,22 +1,28 @@
 //! The profiles and maps that a plan has declared so far, by name.
-ghost use Rattle.std.specs.Prelude.{◌≡◌, IfSome, OnOk, OnErr};
+ghost use Rattle.std.specs.Prelude.{◌≡◌, IfOk, IfSome, OnOk, OnErr};
 ghost use Rattle.std.specs.Arc.{arc_value};
 ghost use Rattle.std.specs.Option.{option_map};
 ghost use Rattle.gw_profile.specs.Seen.{profile_value};
-ghost use Rattle.gw_plan.specs.Declarations.{empty, with_profile, with_map, profiles_of, maps_of, named_profile, named_map, IsNewProfile, IsNewMap, BeginsAt};
+ghost use Rattle.gw_plan.specs.Declarations.{empty, with_profile, with_map, profiles_of, maps_of, named_profile, named_map, IsBetween, IsNewProfile, IsNewMap, BeginsAt};
 ghost use Rattle.gw_plan.specs.Held.{map_between};
 
-use gw_check::CheckedMap;
+use gw_check::{Between, CheckedMap};
+use gw_maplang::Map;
 use gw_profile::Profile;
 use indexmap::IndexMap;
 use std::alloc::{AllocError, Global};
 use std::marker::Model;
 use std::sync::Arc;
 
+/// The names of a source and of a target.
+type Names = (Vec<u8>, Vec<u8>);
+
 /// The profiles and maps that a plan has declared so far, in order. Each map's source is one of the profiles.
+/// Maps between the same two profiles share what is found of these.
 pub(crate) struct Declarations {
     profiles: IndexMap<Vec<u8>, Arc<Profile>>,
     maps: IndexMap<Vec<u8>, Arc<CheckedMap>>,
+    between: IndexMap<Names, Between>,
 }
 
 // Written out, so that what holds one is dropped by a call.
@@ -25,6 +31,7 @@ impl Drop for Declarations {
         let Declarations {
             profiles: _,
             maps: _,
+            between: _,
         } = self;
     }
 }
@@ -44,7 +51,19 @@ impl Model for Declarations {
 
     ghost view = { λ a. record { profiles = map (λ e. arc_value e.1) a.profiles.entries; maps = map (λ e. arc_value e.1) a.maps.entries } };
 
-    ghost invariant = { λ a. AreDeclared (map (λ e. (e.0.items, arc_value e.1)) a.profiles.entries) (map (λ e. (e.0.items, arc_value e.1)) a.maps.entries) };
+    ghost invariant = { λ a. AreDeclared
+        (map (λ e. (e.0.items, arc_value e.1)) a.profiles.entries)
+        (map (λ e. (e.0.items, arc_value e.1)) a.maps.entries)
+        a.between.entries };
+}
+
+// The names of the profiles that a map names.
+fn names_of(alloc: Global, map: &Map) -> Result<Names, AllocError>
+    ensures source { IfOk result (λ names. names.0.items ≡ map.now.source) }
+    ensures target { IfOk result (λ names. names.1.items ≡ map.now.target) }
+{
+    let source = Vec::from_slice(alloc, map.source())?;
+    Ok((source, Vec::from_slice(alloc, map.target())?))
 }
 
 impl Declarations {
@@ -55,6 +74,7 @@ impl Declarations {
         Declarations {
             profiles: IndexMap::new(alloc),
             maps: IndexMap::new(alloc),
+            between: IndexMap::new(alloc),
         }
     }
 
@@ -96,6 +116,33 @@ impl Declarations {
     {
         let name = Vec::from_slice(alloc, map.map().name())?;
         self.maps.insert(name, map)?;
+        Ok(())
+    }
+    /// Takes what maps before have found of the two profiles that this one names, if there are any.
+    pub(crate) fn take_between(
+        &mut self,
+        alloc: Global,
+        map: &Map,
+    ) -> Result<Option<Between>, AllocError>
+        ensures found { IfOk result (λ o. IfSome o (IsBetween (profiles_of self.old) map.now.source map.now.target)) }
+        ensures kept { self.new ≡ self.old }
+    {
+        let names = names_of(alloc, map)?;
+        Ok(self.between.swap_remove(&names))
+    }
+
+    /// Keeps it for further maps between these profiles.
+    pub(crate) fn keep_between(
+        &mut self,
+        alloc: Global,
+        map: &Map,
+        between: Between,
+    ) -> Result<(), AllocError>
+        requires { IsBetween (profiles_of self.old) map.now.source map.now.target between }
+        ensures { self.new ≡ self.old }
+    {
+        let names = names_of(alloc, map)?;
+        self.between.insert(names, between)?;
         Ok(())
     }
 }

@@ -267,7 +267,7 @@ impl Draft {
         ensures kept { OnOk result (IsKept self.new) }
     {
         self.close()?;
-        let map = take_map(alloc, &self.declarations, part)?;
+        let map = take_map(alloc, &mut self.declarations, part)?;
         self.declarations.add_map(alloc, map)?;
         Ok(())
     }

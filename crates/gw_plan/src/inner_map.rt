@@ -7,16 +7,16 @@ ghost use Rattle.gw_maplang.specs.Seen.{map_value};
 ghost use Rattle.gw_maplang.specs.Whole as maps;
 ghost use Rattle.gw_maplang.specs.declared.fault.MapFault.TheVariants as map_faults;
 ghost use Rattle.gw_plan.specs.declared.fault.PlanFault.TheVariants as fault;
-ghost use Rattle.gw_plan.specs.Declarations.{profiles_of, maps_of, named_profile, IsNewMap};
+ghost use Rattle.gw_plan.specs.Declarations.{profiles_of, maps_of, named_profile, IsBetween, IsNewMap};
 ghost use Rattle.gw_plan.specs.Inner as spec;
-ghost use Rattle.gw_plan.specs.own.Made.{broken_rule, inner, map_header, shared_map, borrowed_profile, with_found, IsNumbered, IsTextFault, Spells, Checks, IsTaken};
+ghost use Rattle.gw_plan.specs.own.Made.{broken_rule, inner, map_header, shared_map, borrowed_profile, with_between, with_found, IsNumbered, IsTextFault, Spells, Checks, IsTaken};
 
 use crate::declarations::Declarations;
 use crate::fault::PlanFault;
 use crate::fault_order::{earlier, earliest};
 use crate::headers::{MapHeader, map_header};
 use crate::inner::{Inner, common, joined, line_after};
-use gw_check::{CheckFault, CheckedMap, check};
+use gw_check::{Between, CheckFault, CheckedMap};
 use gw_maplang::{Map, MapFault, parse};
 use gw_profile::Profile;
 use std::alloc::{AllocError, Global};
@@ -145,19 +145,43 @@ fn named_profiles<'s>(
     Some((source, target))
 }
 
+// The profiles that a map names, with what maps before found of them, if both were declared before.
+fn between(
+    alloc: Global,
+    declarations: &mut Declarations,
+    map: &Map,
+) -> Result<Option<Between>, AllocError>
+    ensures between { IfOk result (λ o. option_map (with_between (map_value map.now)) o ≡ spec.between (profiles_of declarations.old) (map_value map.now)) }
+    ensures named { IfOk result (λ o. IfSome o (IsBetween (profiles_of declarations.old) map.now.source map.now.target)) }
+    ensures kept { declarations.new ≡ declarations.old }
+{
+    if let Some(between) = declarations.take_between(alloc, map)? {
+        return Ok(Some(between));
+    }
+    let Some((source, target)) = named_profiles(declarations, map) else {
+        return Ok(None);
+    };
+    let source = Arc::try_clone(source)?;
+    let target = Arc::try_clone(target)?;
+    Ok(Some(Between::new(alloc, source, target)))
+}
+
 // Checks the map. Returns it with its profiles, or the least rule that fails, with its least line.
 fn checked(
     alloc: Global,
-    source: &Arc<Profile>,
-    target: &Arc<Profile>,
+    declarations: &mut Declarations,
+    mut between: Between,
     map: Map,
 ) -> Result<Result<CheckedMap, Broken>, AllocError>
-    ensures { IfOk result (Checks (arc_value source.now) (arc_value target.now) map) }
+    requires { IsBetween (profiles_of declarations.old) map.source map.target between }
+    ensures checks { IfOk result (Checks between.source between.target map) }
+    ensures kept { declarations.new ≡ declarations.old }
 {
-    let source = Arc::try_clone(source)?;
-    let target = Arc::try_clone(target)?;
-    match check(alloc, source, target, map) {
-        Ok(checked) => Ok(Ok(checked)),
+    match between.check(map) {
+        Ok(checked) => {
+            declarations.keep_between(alloc, checked.map(), between)?;
+            Ok(Ok(checked))
+        }
         Err(CheckFault::Memory(_)) => Err(AllocError),
         Err(CheckFault::Rule { rule, line, .. }) => Ok(Err(Broken { rule, line })),
     }
@@ -167,24 +191,25 @@ fn checked(
 // If no `stop` follows, the map isn't whole, and isn't checked.
 fn with_profiles(
     alloc: Global,
-    declarations: &Declarations,
+    declarations: &mut Declarations,
     part: &Inner<'_, '_>,
     beside: Option<PlanFault>,
     map: Map,
 ) -> Result<Arc<CheckedMap>, PlanFault>
     requires { IsNumbered (inner part.now) }
-    ensures said { Gives fault.Memory shared_map result (spec.checked_between (profiles_of declarations.now) beside (inner part.now) (map_value map)) }
-    ensures taken { IfOk result (λ m. IsTaken (profiles_of declarations.now) map (arc_value m)) }
+    ensures said { Gives fault.Memory shared_map result (spec.checked_between (profiles_of declarations.old) beside (inner part.now) (map_value map)) }
+    ensures taken { IfOk result (λ m. IsTaken (profiles_of declarations.old) map (arc_value m)) }
     ensures alone { IfOk result (λ _. beside ≡ None) }
+    ensures kept { declarations.new ≡ declarations.old }
 {
-    let Some((source, target)) = named_profiles(declarations, &map) else {
+    let Some(between) = between(alloc, declarations, &map)? else {
         let line = part.at + u64::from(map.line());
         return Err(earlier(beside, PlanFault::UnknownName(line)));
     };
     if !part.stopped {
         return Err(earlier(beside, PlanFault::Syntax(line_after(part))));
     }
-    match checked(alloc, source, target, map)? {
+    match checked(alloc, declarations, between, map)? {
         Err(broken) => Err(earlier(beside, rule_fault(part, broken))),
         Ok(checked) => match beside {
             Some(fault) => Err(fault),
@@ -197,12 +222,13 @@ fn with_profiles(
 /// Its fault is the first of those of its lines, its names, the map itself and its check.
 pub(crate) fn take_map(
     alloc: Global,
-    declarations: &Declarations,
+    declarations: &mut Declarations,
     part: &Inner<'_, '_>,
 ) -> Result<Arc<CheckedMap>, PlanFault>
     requires { IsNumbered (inner part.now) }
-    ensures said { Gives fault.Memory shared_map result (spec.inner_map (profiles_of declarations.now) (maps_of declarations.now) (inner part.now)) }
-    ensures new { IfOk result (λ m. IsNewMap declarations.now (arc_value m)) }
+    ensures said { Gives fault.Memory shared_map result (spec.inner_map (profiles_of declarations.old) (maps_of declarations.old) (inner part.now)) }
+    ensures new { IfOk result (λ m. IsNewMap declarations.old (arc_value m)) }
+    ensures kept { declarations.new ≡ declarations.old }
 {
     let beside = faults_beside(alloc, declarations, part)?;
     match spelled(alloc, part)? {

@@ -1,5 +1,5 @@
 //! Parsing of a plan.
-ghost use Rattle.std.specs.Prelude.{◌≡◌, ◌<◌, ◌≤◌, ◌+◌, ◌∷◌, ℕ, map, length, IfOk, OnOk, Some};
+ghost use Rattle.std.specs.Prelude.{◌≡◌, ◌<◌, ◌≤◌, ◌+◌, map, length, IfOk, OnOk, Some};
 ghost use Rattle.gw_lines.specs.Reading.{Gives};
 ghost use Rattle.gw_lines.specs.Seen.{word};
 ghost use Rattle.gw_lines.specs.Words.{words};

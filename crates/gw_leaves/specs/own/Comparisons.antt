@@ -1,23 +1,29 @@
 -- Texts of the source against tables of the target, whatever the length at which a place reads them.
-use Rattle.std.specs.Prelude.{◌≡◌, if◌then◌else◌, ◌∷◌, ℕ, Bool, true, false, ◌&&◌, ◌||◌, not, nat_lt, nat_le, List, [], ◌++◌, map, filter, Option, Some, None, is_some, option_copied, option_and_then, option_to_list, unwrap_or, bytes_eq}
+use Rattle.std.specs.Prelude.{◌≡◌, if◌then◌else◌, ◌∷◌, ℕ, Bool, true, false, ◌&&◌, ◌||◌, not, nat_lt, nat_le, List, [], ◌++◌, map, filter, Option, Some, None, is_some, option_copied, option_and_then, option_map, option_to_list, unwrap_or, bytes_eq}
 use Rattle.std.specs.List.{list_any}
 use Rattle.std.specs.Map.{lookup}
-use Rattle.std.specs.Option.{option_eq}
+use Rattle.std.specs.Option.{option_eq, IfSome}
+use Rattle.std.specs.Arc.{arc_value}
+use Rattle.std.specs.declared.alloc.Global.{Global}
+use Rattle.std.specs.declared.sync.Arc.{Arc}
 use Rattle.std.specs.Global.{Vec}
 use denote.Ref.{Bor}
 use Rattle.gw_profile.specs.Shapes.{SubValue, TableValue, ProfileValue}
 use Rattle.gw_profile.specs.declared.shape.Count.{Count}
 use Rattle.gw_profile.specs.Lengths.{measure, len_count}
 use Rattle.gw_profile.specs.Fault.{is_among}
+use Rattle.gw_profile.specs.Seen as profiles
 use Rattle.gw_profile.specs.Seen.{profile_value}
 use Rattle.gw_profile.specs.Value.{table_of as table_in}
+use Rattle.gw_maplang.specs.Seen as seen_maps
 use Rattle.gw_maplang.specs.Seen.{now}
 use Rattle.gw_maplang.specs.Shapes as maps
 use Rattle.gw_resolve.specs.Naming.{no_rows}
 use Rattle.gw_leaves.specs.Leaves.{Values, any, listed, is_short, given, given_values, has_no_row}
-use Rattle.gw_leaves.specs.Context.{ContextValue}
+use Rattle.gw_leaves.specs.Context.{ContextValue, context_of}
 use Rattle.gw_leaves.specs.Texts.{rows_value}
 use Rattle.gw_leaves.specs.declared.comparison.Found.{Found}
+use Rattle.gw_leaves.specs.declared.compared.Compared.{Compared}
 use Rattle.gw_leaves.specs.declared.comparison.LookedUp.{LookedUp}
 
 -- ---- what is read at a place
@@ -238,9 +244,44 @@ pub record IsFound (s : ContextValue) (c : Comparison) (found : Found) : Type 0 
   pub unrowed : (name : List ℕ) → now c.0.0 ≡ Some name → IsShortest s.source.count (values_named s.source.tables (now c.0.1)) (rows_named s.map.tables name) found.unrowed
 
 -- what is found of a comparison is so
-abbrev pub AreKept : ContextValue → List (Comparison × Found) → Type 0
-AreKept s known = (c : Comparison) (found : Found) → Some found ≡ lookup (comparisons_eq c) known → IsFound s c found
+abbrev pub AreKept : ContextValue → List (Comparison × Arc Found Global) → Type 0
+AreKept s known = (c : Comparison) (found : Arc Found Global) → Some found ≡ lookup (comparisons_eq c) known → IsFound s c (arc_value found)
 
 -- the tables of the source that were listed
 abbrev pub AreLists : ContextValue → List (Option (Bor (List ℕ)) × Vec Sized) → Type 0
 AreLists s lists = (name : Option (Bor (List ℕ))) (all : Vec Sized) → Some all ≡ lookup (option_eq names_eq name) lists → IsListed s name all.items
+
+-- ---- what is kept of copies, whatever the map
+
+-- the table of the source whose texts are copied, and that of the target, if one is named
+abbrev pub Copied : Type 0
+Copied = Vec ℕ × Option (Vec ℕ)
+
+abbrev pub texts_eq : Vec ℕ → Vec ℕ → Bool
+texts_eq x y = bytes_eq x.items y.items
+
+abbrev pub copies_eq : Copied → Copied → Bool
+copies_eq x y = texts_eq x.0 y.0 && option_eq texts_eq x.1 y.1
+
+-- the comparison is of these tables, without rows
+pub record IsCopyOf (c : Comparison) (k : Copied) : Type 0 where
+  pub rows : now c.0.0 ≡ None
+  pub listed : now c.0.1 ≡ Some k.0.items
+  pub name : now c.1 ≡ option_map (λ (v : Vec ℕ). v.items) k.1
+
+-- what is kept is found by each comparison of its tables
+abbrev pub AreCopies : profiles.Contents → profiles.Contents → List (Copied × Arc Found Global) → Type 0
+AreCopies source target copies = (k : Copied) (found : Arc Found Global) → Some found ≡ lookup (copies_eq k) copies
+    → (map : seen_maps.Contents) (c : Comparison) → IsCopyOf c k → IsFound (context_of source target map) c (arc_value found)
+
+-- what is found of the tables of these profiles is so
+abbrev pub AreCompared : profiles.Contents → profiles.Contents → Compared → Type 0
+AreCompared source target compared = AreCopies source target compared.copies.entries
+
+-- what was kept of a comparison is what it finds
+abbrev pub IsRecalled : Compared → Comparison → Option (Arc Found Global) → Type 0
+IsRecalled compared c recalled = (s : ContextValue) → AreCompared s.source s.target compared → IfSome recalled (λ f. IsFound s c (arc_value f))
+
+-- what a comparison finds is kept beside what was
+abbrev pub Keeps : Compared → Compared → Comparison → Found → Type 0
+Keeps old new c found = (s : ContextValue) → IsFound s c found → AreCompared s.source s.target old → AreCompared s.source s.target new

@@ -12,7 +12,7 @@ use Rattle.gw_maplang.specs.Seen as maps
 use Rattle.gw_maplang.specs.Seen.{map_value}
 use Rattle.gw_maplang.specs.Shapes.{MapValue}
 use Rattle.gw_plan.specs.declared.inner_map.Broken as declared_broken
-use Rattle.gw_check.specs.Kept.{CheckedValue}
+use Rattle.gw_check.specs.Kept.{CheckedValue, BetweenValue}
 use Rattle.gw_check.specs.Checked.{all_failures, least, Broken, broken}
 use Rattle.gw_plan.specs.declared.inner.Inner as declared
 use Rattle.gw_plan.specs.declared.headers.MapHeader as headers
@@ -53,6 +53,10 @@ Spells view (Err e) said = said ≡ Err e
 -- a map with the profiles that were found for it, seen by view
 abbrev pub with_found : {A : Type 0} → (A → ProfileValue) → MapValue → A × A → MapBetween
 with_found view m found = record { source = view found.0; target = view found.1; map = m }
+
+-- a map with the profiles between which it is checked
+abbrev pub with_between : MapValue → BetweenValue → MapBetween
+with_between m b = record { source = profile_value b.source; target = profile_value b.target; map = m }
 
 -- a map that was checked is this one, with its profiles, and no rule fails
 pub record IsCheckedSo (source target : profiles.Contents) (m : maps.Contents) (c : CheckedValue) : Type 0 where

@@ -1,5 +1,4 @@
-use Rattle.std.proofs.Common.{Some, sym, subst, ap, ◌∙◌}
-use Rattle.std.specs.Prelude.{option_map}
+use Rattle.std.proofs.Common.{sym, subst, ◌∙◌}
 use Rattle.gw_profile.specs.Lengths.{measure}
 use Rattle.gw_maplang.specs.Seen.{now}
 use Rattle.gw_leaves.specs.Texts.{rows_value}

@@ -1,5 +1,4 @@
 use Rattle.std.proofs.Common.{◌≡◌, drop}
-use Rattle.gw_leaves.specs.Texts.{rows_value}
 use Rattle.gw_leaves.specs.own.Comparisons.{first_length, is_missing, some_values}
 use Rattle.gw_leaves.proofs.listing.first_unlisted.Given as goal
 

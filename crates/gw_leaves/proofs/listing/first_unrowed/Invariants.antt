@@ -1,6 +1,6 @@
 use Rattle.std.proofs.Common.{◌≡◌, drop}
 use Rattle.gw_leaves.specs.Texts.{rows_value}
-use Rattle.gw_leaves.specs.own.Comparisons.{first_length, is_lacking, some_values}
+use Rattle.gw_leaves.specs.own.Comparisons.{first_length, is_lacking}
 use Rattle.gw_leaves.proofs.listing.first_unrowed.Given as goal
 
 abbrev pub invariant-loop-value : goal.invariant-loop-value

@@ -1,5 +1,4 @@
 use Rattle.std.proofs.Common.{◌≡◌, take, map}
-use Rattle.std.specs.Global.{Vec}
 use Rattle.gw_profile.specs.Lengths.{measure}
 use Rattle.gw_leaves.specs.own.Comparisons.{sized}
 use Rattle.gw_leaves.proofs.listing.measured.Given as goal

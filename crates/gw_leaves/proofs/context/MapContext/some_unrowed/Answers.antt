@@ -1,10 +1,12 @@
 use Rattle.std.proofs.Common.{Some, None, ℕ, refl, sym, ap, subst, ◌∙◌}
 use Rattle.std.specs.Prelude.{unwrap_or, ◌&&◌}
+use Rattle.std.specs.Arc.{arc_value}
 use Rattle.std.specs.Global.{Vec}
 use Rattle.gw_profile.specs.Lengths.{measure}
 use Rattle.gw_resolve.specs.Naming.{no_rows}
 use Rattle.gw_leaves.specs.Context.{ContextValue}
-use Rattle.gw_leaves.specs.own.Comparisons.{Comparison, IsFound, fits, is_lacking, rows_named, some_unrowed, values_named}
+use Rattle.gw_leaves.specs.declared.comparison.Found.{Found}
+use Rattle.gw_leaves.specs.own.Comparisons.{Comparison, IsFound, fits, is_lacking, is_within, rows_named, some_unrowed, values_named}
 use Rattle.gw_leaves.specs.Texts.{rows_value}
 use Rattle.gw_leaves.proofs.Inserted.{any_map}
 use Rattle.gw_leaves.proofs.context.MapContext.some_unrowed.Goals as goal
@@ -13,8 +15,8 @@ pub returns-in-Some : goal.returns-in-Some
 returns-in-Some c =
     let f = c.in-Some.found.now in
     let asked : Comparison = ((Some c.args.rows, Some c.args.listed), None) in
-    let is = subst (λ s. IsFound s asked f) c.self.view_is (c.self.invariant asked f c.in-Some.ensures.value) in
-    c.is_within.ensures ∙ is.unrowed c.args.rows.now refl c.args.len
+    let is = subst (λ s. IsFound s asked (arc_value f)) c.self.view_is (c.self.invariant asked f c.in-Some.ensures.value) in
+    c.is_within.ensures ∙ ap (λ (x : Found). is_within c.args.len x.unrowed) c.deref.ensures ∙ is.unrowed c.args.rows.now refl c.args.len
 
 pub returns : goal.returns
 returns c =

@@ -12,8 +12,8 @@ invariant_of-self-2 c =
     c.in_ok-name.ensures.items ∙ c.name.ensures ∙ ap (λ (m : maps.Contents). m.name) (c.map.ensures ∙ ap (λ (m : CheckedValue). m.map) c.deref.ensures)
     in
     let new = ap (λ (a : DeclarationsHeld). named_map (arc_value c.args.map).map.name (maps_of a)) c.self.view_is ∙ c.requires.new in
-    map_kept arc_value arc_value c.self.inside.profiles.entries c.self.inside.maps.entries c.insert.new.self.entries c.in_ok-name.name c.args.map name
-    (map_put arc_value c.self.inside.maps.entries c.insert.new.self.entries _ c.in_ok-name.name c.args.map name c.self.invariant new c.in_ok-insert.ensures.entries)
+    map_kept arc_value arc_value c.self.inside.profiles.entries c.self.inside.maps.entries c.insert.new.self.entries _ c.in_ok-name.name c.args.map name
+    (map_put arc_value c.self.inside.maps.entries c.insert.new.self.entries _ _ c.in_ok-name.name c.args.map name c.self.invariant new c.in_ok-insert.ensures.entries)
     (subst (λ (a : DeclarationsHeld). BeginsAt (profiles_of a) (arc_value c.args.map)) (sym c.self.view_is) c.requires.source) c.self.invariant
 
 pub returns-clause-added : goal.returns-clause-added
@@ -22,7 +22,7 @@ returns-clause-added c =
     c.in_ok-name.ensures.items ∙ c.name.ensures ∙ ap (λ (m : maps.Contents). m.name) (c.map.ensures ∙ ap (λ (m : CheckedValue). m.map) c.deref.ensures)
     in
     let new = ap (λ (a : DeclarationsHeld). named_map (arc_value c.args.map).map.name (maps_of a)) c.self.view_is ∙ c.requires.new in
-    let put = map_put arc_value c.self.inside.maps.entries c.insert.new.self.entries _ c.in_ok-name.name c.args.map name c.self.invariant new c.in_ok-insert.ensures.entries in
+    let put = map_put arc_value c.self.inside.maps.entries c.insert.new.self.entries _ _ c.in_ok-name.name c.args.map name c.self.invariant new c.in_ok-insert.ensures.entries in
     ap (λ (ms : List CheckedValue). record { profiles = map (λ e. arc_value e.1) c.self.inside.profiles.entries; maps = ms })
     (one_more arc_value c.self.inside.maps.entries c.insert.new.self.entries c.in_ok-name.name c.args.map put)
     ∙ ap (λ (a : DeclarationsHeld). with_map a (arc_value c.args.map)) c.self.view_is
