@@ -6,7 +6,7 @@ use Rattle.std.specs.Str.{bytes_eq}
 use Rattle.std.specs.BTreeMap.{BTreeMap, get, is_at}
 use Rattle.std.specs.Ordering.{nat_cmp}
 use Rattle.std.specs.Cmp.Lexicographic.{slice_cmp}
-use Rattle.std.proofs.lemmas.List.{map-append, take_more}
+use Rattle.std.proofs.lemmas.List.{map-append}
 use Rattle.std.proofs.lemmas.Bool.{cases_lt}
 use Rattle.std.proofs.lemmas.Grind.{common_steps}
 use Rattle.std.proofs.lemmas.Map.Text.{is_eq-slice_cmp}
@@ -15,14 +15,13 @@ use Rattle.gw_profile.specs.declared.shape.FieldShape.{FieldShape}
 use denote.Ref.{Bor}
 use Rattle.gw_profile.specs.Shapes.{Forest, FieldValue, ProfileValue}
 use Rattle.gw_profile.specs.Deterministic.{Name, Determined, NoName}
-use Rattle.gw_validate.specs.declared.breach.Breach.{Breach}
 use Rattle.gw_validate.specs.declared.fields.Spot.{Spot}
 use Rattle.gw_validate.specs.Breaches.{SegmentBreach}
-use Rattle.gw_validate.specs.Broken.{IsTreeOf, Assigns, Breaks, out_of_order, missing, in_segment, sequence, spot_of}
+use Rattle.gw_validate.specs.Broken.{IsTreeOf, Assigns, Breaks, out_of_order, missing, in_segment, sequence}
 use Rattle.gw_validate.specs.Conforming.{numbers, segment_at, named}
 use Rattle.gw_validate.specs.Every.{Before, Has, Rising, AreAll, AreBreaches, BreaksAt, IsNamed, place_of}
 use Rattle.gw_validate.specs.Trees.{Tree, assigned}
-use Rattle.gw_validate.specs.own.Finding.{found_key, Collects, Finds, IsAlone, breach_of, count_of}
+use Rattle.gw_validate.specs.own.Finding.{found_key, Collects, Finds, breach_of, count_of}
 use Rattle.gw_validate.specs.own.Gathering.{Under, Gathers}
 use Rattle.gw_validate.specs.own.Least.{BreachAt, segment_key}
 use Rattle.gw_validate.specs.own.Judging.{IsShaped}
@@ -62,7 +61,7 @@ keys_at : (n : ℕ) (spots : List Spot) → map found_key (at_number n spots) �
 keys_at n [] = refl
 keys_at n (s ∷ spots) = ap (λ l. (n ∷ segment_key s) ∷ l) (keys_at n spots)
 
-pub finds_one : (profile : ProfileValue) (m : List SegmentValue) (shape : List FieldValue) (n : ℕ) (s : SegmentValue) (spots : List Spot) (a b : List (ℕ × Spot)) → slice_get m n ≡ Some s → Gathers (SegmentBreach profile shape s.at) [] spots → b ≡ a ++ at_number n spots → Finds (BreachAt profile m) ((n, shape) ∷ []) a b
+pub finds_one : (profile : ProfileValue) (m : List SegmentValue) (shape : List FieldValue) (n : ℕ) (s : SegmentValue) (spots : List Spot) (a b : List (ℕ × Spot)) → slice_get m n ≡ Some s → Gathers (SegmentBreach profile shape s.at) [] (map segment_key spots) → b ≡ a ++ at_number n spots → Finds (BreachAt profile m) ((n, shape) ∷ []) a b
 finds_one profile m shape n s spots a b here g is = record {
   added = at_number n spots;
   is = is;
@@ -71,7 +70,7 @@ finds_one profile m shape n s spots a b here g is = record {
     [],
     keys_at n spots ∙ sym (append-nil (map (λ q. n ∷ q) (map segment_key spots))),
     subst (λ (x : SegmentValue). AreAll (SegmentBreach profile shape x.at) (map segment_key spots)) (sym (segment_is m n s here))
-        (subst (λ (l : List Spot). AreAll (SegmentBreach profile shape s.at) (map segment_key l)) (sym g.is) g.all),
+        (subst (AreAll (SegmentBreach profile shape s.at)) (sym g.is) g.all),
     refl,
   );
 }
@@ -80,7 +79,7 @@ take_whole : {X : Type 0} (xs : List X) (i : ℕ) → length xs ≤ i → take i
 take_whole xs i le = grind (arith, common_steps)
 
 -- the spots of a segment, after each was put behind what was found
-pub finds_end : (profile : ProfileValue) (m : List SegmentValue) (shape : List FieldValue) (n : ℕ) (s : SegmentValue) (spots items : List Spot) (i : ℕ) (a b : List (ℕ × Spot)) → slice_get m n ≡ Some s → Gathers (SegmentBreach profile shape s.at) [] spots → items ≡ spots → length items ≤ i → b ≡ a ++ at_number n (take i items) → Finds (BreachAt profile m) ((n, shape) ∷ []) a b
+pub finds_end : (profile : ProfileValue) (m : List SegmentValue) (shape : List FieldValue) (n : ℕ) (s : SegmentValue) (spots items : List Spot) (i : ℕ) (a b : List (ℕ × Spot)) → slice_get m n ≡ Some s → Gathers (SegmentBreach profile shape s.at) [] (map segment_key spots) → items ≡ spots → length items ≤ i → b ≡ a ++ at_number n (take i items) → Finds (BreachAt profile m) ((n, shape) ∷ []) a b
 finds_end profile m shape n s spots items i a b here g same le is =
     finds_one profile m shape n s spots a b here g (is ∙ ap (λ l. a ++ at_number n l) (take_whole items i le ∙ same))
 
@@ -139,12 +138,6 @@ sequences_more m n xs ys counts name v is e named_so v_is counted each j lt = el
       let this : v ≡ sequence m n (named m n) = (let c = counted name in let up : v ≡ suc (count_by (λ (s : SegmentValue). bytes_eq s.name name) (take n m)) = omega (arith, v_is, c) in up ∙ ap (sequence m n) named_so) in
       ap (λ l. get_or l j 0) is ∙ ap (λ k. get_or (xs ++ v ∷ []) k 0) (same ∙ sym e) ∙ get_last xs v ∙ this ∙ ap (λ k. sequence m k (named m k)) (sym same))
 ]
-
--- one more spot as a breach
-pub breaches_more : (m : List SegmentValue) (items : List (ℕ × Spot)) (i n : ℕ) (s : Spot) (old new : List (ℕ × Breach)) (b : Breach) → i < length items → (n, s) ≡ get_or items i (n, s) → new ≡ old ++ (n, b) ∷ [] → b ≡ (breach_of m (n, s)).1 → old ≡ map (breach_of m) (take i items) → new ≡ map (breach_of m) (take (i + 1) items)
-breaches_more m items i n s old new b lt at is same before =
-    is ∙ ap (λ l. l ++ (n, b) ∷ []) before ∙ ap (λ (x : Breach). map (breach_of m) (take i items) ++ (n, x) ∷ []) same
-    ∙ sym (ap (map (breach_of m)) (take_more items i (n, s) lt ∙ ap (λ z. take i items ++ z ∷ []) (sym at)) ∙ map-append (breach_of m) (take i items) ((n, s) ∷ []))
 
 -- ---- all of them
 
@@ -299,19 +292,3 @@ module _ (p : ProfileValue) (m : List SegmentValue) (wf : Determined p.nodes NoN
 
   pub shaped_breaches : AreBreaches p m (map (breach_of m) spots)
   shaped_breaches = are_breaches p m wf shape.assigns.tree shape.assigns.is spots by_tree
-
--- ---- the one breach of names that don't fit
-
-pub alone_breaches : (p : ProfileValue) (m : List SegmentValue) (x : ℕ × Breach) → IsAlone p m x → AreBreaches p m (x ∷ [])
-alone_breaches p m x a = record {
-  all = record { each = each; every = every; rising = ((λ q h. absurd h), tt) };
-  named = (a.named, tt);
-}
-  where
-    each : (q : List ℕ) → Has (place_of x ∷ []) q → BreaksAt p m q
-    each q (inl e) = subst (BreaksAt p m) e (x.1.segment, a.named.breaks)
-    each q (inr h) = absurd h
-
-    every : (q : List ℕ) → BreaksAt p m q → Has (place_of x ∷ []) q
-    every [] h = absurd h
-    every (i ∷ q) h = let r = a.alone i h.0 q h.1 in inl (ap (λ (n : ℕ). n ∷ spot_of x.1) r.0 ∙ ap (λ (l : List ℕ). i ∷ l) r.1)

@@ -1,12 +1,11 @@
 -- A list conforms exactly where a tree of it has all segments meet their shapes.
-use Rattle.std.proofs.Common.{◌≡◌, ℕ, zero, suc, ◌≤◌, List, [], ◌∷◌, ◌++◌, refl, sym, ap, ◌∙◌, subst, length, map, ◌↔◌}
+use Rattle.std.proofs.Common.{◌≡◌, ℕ, zero, suc, ◌≤◌, List, [], ◌∷◌, ◌++◌, refl, sym, ap, ◌∙◌, subst, length, map}
 use Rattle.std.specs.List.{AllByRecursion}
 use Rattle.gw_profile.specs.Shapes.{Forest, nothing, segment, group, FieldValue}
 use Rattle.gw_validate.specs.Cuts.{Many}
-use Rattle.gw_validate.proofs.Unique.{one_tree}
 use Rattle.gw_validate.specs.Trees.{Tree, leaf, segments, groups, Trees, no_trees, trees, count_of, IsTree, AreTrees, assigned, assigned_all, AllMeet, MeetingTree}
 use Rattle.gw_validate.specs.Conforming.{One, Seq}
-use Rattle.gw_profile.specs.Deterministic.{Name, AtMost, Determined, NoName}
+use Rattle.gw_profile.specs.Deterministic.{Name, AtMost}
 
 all_joined : {X : Type 0} (P : X → Type 0) (xs ys : List X) → AllByRecursion P xs → AllByRecursion P ys → AllByRecursion P (xs ++ ys)
 all_joined P [] ys a b = b
@@ -93,10 +92,3 @@ module _ (named : ℕ → Name) (meets : List FieldValue → ℕ → Type 0) whe
     trees_conform no_trees ch l h m = h
     trees_conform (trees t ts) ch l h m =
         record { front = h.front; back = h.back; joined = h.joined; here = tree_conforms t ch h.front h.here (all_front _ (assigned t ch) (assigned_all ts ch) m); there = trees_conform ts ch h.back h.there (all_back _ (assigned t ch) (assigned_all ts ch) m) }
-
--- the one tree decides
-pub tree_decides : (named : ℕ → Name) (meets : List FieldValue → ℕ → Type 0) (f : Forest) (t : Tree) (l : List ℕ) → Determined f NoName → IsTree named t f l → Seq named meets f l ↔ AllMeet meets (assigned t f)
-tree_decides named meets f t l wf is = (
-  λ h. let m = meeting_tree named meets f l h in subst (λ u. AllMeet meets (assigned u f)) (one_tree named f NoName wf m.tree t l m.is is) m.met,
-  λ m. tree_conforms named meets t f l is m,
-)

@@ -3,16 +3,12 @@ use Rattle.std.proofs.Common.{◌≡◌, ℕ, zero, suc, ◌+◌, ◌^◌, ◌<�
 use Rattle.std.specs.Prelude.{filter}
 use Rattle.std.specs.List.{count_by, AllByRecursion}
 use Rattle.std.specs.Str.{bytes_eq}
-use Rattle.std.specs.FinMap as texts
 use Rattle.std.proofs.lemmas.List.Sums.{count_by_more_yes, count_by_more_no, length-filter}
 use Rattle.gw_er7.specs.Message.{SegmentValue, IsMessage, IsOther}
 use Rattle.gw_er7.specs.Names.{header_name}
 use Rattle.gw_profile.specs.Deterministic.{Name}
 use Rattle.gw_validate.specs.Conforming.{segment_at, named}
 use Rattle.gw_validate.proofs.Names.{names_equal}
-
-blank : SegmentValue
-blank = record { name = 0 ∷ 0 ∷ 0 ∷ []; at = texts.empty }
 
 got : (m : List SegmentValue) (i : ℕ) → get_or m i (segment_at m i) ≡ segment_at m i
 got [] i = refl
@@ -64,12 +60,3 @@ small_named m h name n count e lt =
       | inl a ↦ omega (arith, a, f, lt)
       | inr a ↦ omega (arith, a, f)
     ]
-
-pub take_past : (m : List SegmentValue) (i n : ℕ) → length m ≤ i → length m ≤ n → take i m ≡ take n m
-take_past [] zero zero a b = refl
-take_past [] zero (suc n) a b = refl
-take_past [] (suc i) zero a b = refl
-take_past [] (suc i) (suc n) a b = refl
-take_past (s ∷ m) zero n a b = absurd (omega arith)
-take_past (s ∷ m) (suc i) zero a b = absurd (omega arith)
-take_past (s ∷ m) (suc i) (suc n) a b = ap (λ l. s ∷ l) (take_past m i n (omega arith) (omega arith))

@@ -23,7 +23,7 @@ use Rattle.gw_validate.specs.own.Least.{EachRises, Searched, BreachAt}
 use Rattle.gw_validate.specs.Broken.{IsTreeOf, Breaks, sequence, spot_of, IsLeast}
 use Rattle.gw_validate.specs.Breaches.{NotAfter}
 use Rattle.gw_validate.specs.own.Finding.{IsAlone}
-use Rattle.gw_validate.proofs.Leasts.{not_after_self}
+use Rattle.gw_validate.proofs.Walks.{self}
 use Rattle.gw_validate.proofs.Listed.{Place, place, numbers_below}
 use Rattle.gw_validate.proofs.Flat.{tree_flat, assigned_flat}
 use Rattle.gw_validate.proofs.Judged.{names_are, names_take, NoneBefore, AloneAt, order_breaks, order_alone, missing_breaks, missing_alone, segment_breaks, segment_least, meets_all, tree_message, message_tree, tree_names_fit, breaks_nothing}
@@ -191,7 +191,7 @@ alone_least p m x a = (
     number = x.0;
     breaks = a.named.breaks;
     counted = a.named.counted;
-    least = λ i name spot h. let r = a.alone i name spot h in inr (r.0, subst (NotAfter (spot_of x.1)) r.1 (not_after_self (spot_of x.1)));
+    least = λ i name spot h. let r = a.alone i name spot h in inr (r.0, subst (NotAfter (spot_of x.1)) r.1 (self (spot_of x.1)));
   },
   a.never,
 )

@@ -27,9 +27,6 @@ module _ (named : ℕ → Name) where
     trees_flat (trees t ts) ch l h =
         ap (λ b. flatten t ++ b) (trees_flat ts ch h.back h.there) ∙ ap (λ a. a ++ h.back) (tree_flat t ch h.front h.here) ∙ sym h.joined
 
-  number_of : ℕ × List FieldValue → ℕ
-  number_of p = p.0
-
   paired : (ns : List ℕ) (shape : List FieldValue) → map (λ (p : ℕ × List FieldValue). p.0) (map (λ i. (i, shape)) ns) ≡ ns
   paired [] shape = refl
   paired (n ∷ ns) shape = ap (λ l. n ∷ l) (paired ns shape)

@@ -3,23 +3,19 @@ use Rattle.std.proofs.Common.{◌≡◌, ℕ, zero, suc, ◌+◌, ◌<◌, ◌�
 use Rattle.std.specs.Prelude.{◌&&◌, ◌==◌, if◌then◌else◌, ◌↔◌}
 use Rattle.std.proofs.lemmas.List.{take_all, map-append, take-append-drop, take_more}
 use Rattle.gw_er7.specs.Message.{SegmentValue}
-use Rattle.gw_profile.specs.declared.shape.Card.{Card}
-use Rattle.gw_profile.specs.declared.node.Node.{Node, Seg, Group'}
 use Rattle.gw_profile.specs.Among.{Among}
 use Rattle.gw_profile.specs.Line.{allows}
 use Rattle.gw_profile.specs.LookAhead.{first_names, is_optional}
 use Rattle.gw_profile.specs.Names.{stands}
-use Rattle.gw_profile.specs.Seen.{row_forest}
 use Rattle.gw_profile.specs.Shapes.{Forest, nothing, segment, group}
 use Rattle.gw_profile.specs.Deterministic.{Name, First, Determined}
-use Rattle.gw_profile.proofs.Ambiguity.{allows_is, first_named}
+use Rattle.gw_profile.proofs.Ambiguity.{first_named}
 use Rattle.gw_validate.specs.declared.walk.Frame.{Frame}
 use Rattle.gw_validate.specs.Conforming.{names, named, segment_at, listed}
 use Rattle.gw_validate.specs.Cuts.{Begins, Fits}
 use Rattle.gw_validate.specs.Next.{AreNext}
-use Rattle.gw_validate.specs.own.Firsts.{first_of}
-use Rattle.gw_validate.specs.own.Residual.{has_room, append, after_name}
-use Rattle.gw_validate.specs.own.State.{due_forest, frame_forest, stack_on}
+use Rattle.gw_validate.specs.own.Residual.{append, after_name}
+use Rattle.gw_validate.specs.own.State.{frame_forest, stack_on}
 use Rattle.gw_validate.proofs.Exact.{Steps, step}
 use Rattle.gw_validate.proofs.Gathered.{take_segment}
 use Rattle.gw_validate.proofs.Listed.{listed_more}
@@ -54,26 +50,7 @@ module _ (f : Forest) (m : List SegmentValue) (i : ℕ) (lt : i < length m) (fou
   name_passed never =
       so_far ∙ sym (append-nil (names f (take i m))) ∙ sym (names_next f m i lt ∙ ap (λ b. names f (take i m) ++ (if b then named m i ∷ [] else [])) (same ∙ never))
 
-pub names_all : (f : Forest) (m : List SegmentValue) (i count number : ℕ) (found : List Name) → count ≡ length m → count ≤ i → i ≤ number → found ≡ names f (take i m) → found ≡ names f (take number m)
-names_all f m i count number found long end le so_far =
-    so_far ∙ ap (names f) (take_all i m (omega (arith, long, end)) ∙ sym (take_all number m (omega (arith, long, end, le))))
-
 -- ---- the first names of what is left
-
-room_allows : (most : Option ℕ) → allows most 1 ≡ has_room most
-room_allows None = refl
-room_allows (Some zero) = refl
-room_allows (Some (suc n)) = (allows_is (Some (suc n)) 1).1 (omega arith)
-
-pub first_due : (n : Node) (due : Card) (rest : Forest) → first_names (due_forest n due rest) ≡ first_of n due.max ++ (if due.min == 0 then first_names rest else [])
-first_due (Seg s) due rest =
-    ap (λ b. (if b then s.name ∷ [] else []) ++ (if due.min == 0 then first_names rest else [])) (room_allows due.max)
-first_due (Group' label usage card shape row) due rest =
-    ap (λ b. (if b then first_names (row_forest row) else []) ++ (if due.min == 0 then first_names rest else [])) (room_allows due.max)
-
-pub optional_due : (n : Node) (due : Card) (rest : Forest) → is_optional (due_forest n due rest) ≡ (due.min == 0) && is_optional rest
-optional_due (Seg s) due rest = refl
-optional_due (Group' label usage card shape row) due rest = refl
 
 joined : (own : List Name) (zero all : Bool) (rest behind both : List Name) → both ≡ rest ++ (if all then behind else []) → own ++ (if zero then both else []) ≡ (own ++ (if zero then rest else [])) ++ (if zero && all then behind else [])
 joined own true all rest behind both e = ap (λ l. own ++ l) e ∙ sym (append_assoc own rest _)
@@ -100,9 +77,6 @@ module _ (f : Frame) (start rest popped : List Frame) (found new : List Name) (a
 
   pub first_ended : absent ≡ false → new ≡ first_names (stack_on start nothing)
   first_ended never = sym (split ∙ ap (λ b. new ++ (if b then first_names (stack_on rest nothing) else [])) never ∙ append-nil new)
-
-pub first_all : (start popped : List Frame) (found : List Name) → first_names (stack_on start nothing) ≡ found ++ first_names (stack_on popped nothing) → popped ≡ [] → found ≡ first_names (stack_on start nothing)
-first_all start popped found same end = sym (same ∙ ap (λ l. found ++ first_names (stack_on l nothing)) end ∙ append-nil found)
 
 -- ---- which names go on
 

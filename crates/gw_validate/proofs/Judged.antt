@@ -1,5 +1,5 @@
 -- The breach that is named is the least.
-use Rattle.std.proofs.Common.{◌≡◌, ℕ, zero, suc, ◌<◌, ◌≤◌, ◌⊎◌, inl, inr, List, [], ◌∷◌, ◌++◌, Option, Some, None, refl, sym, ap, ◌∙◌, subst, arith, length, append_assoc, map, take, slice_get, unwrap_or}
+use Rattle.std.proofs.Common.{◌≡◌, ℕ, zero, suc, ◌<◌, ◌≤◌, ◌⊎◌, inl, inr, List, [], ◌∷◌, ◌++◌, Some, None, refl, sym, ap, ◌∙◌, subst, arith, length, append_assoc, map, take, slice_get, unwrap_or}
 use Rattle.std.specs.FinMap as texts
 use Rattle.std.proofs.lemmas.List.{map-append, take-map}
 use Rattle.std.proofs.lemmas.List.Elements.{filter-append}
@@ -76,23 +76,6 @@ segment_is m i s e = ap (λ o. unwrap_or o (record { name = 0 ∷ 0 ∷ 0 ∷ []
 -- ---- the search of a tree
 
 module _ (B : List FieldValue → ℕ → List ℕ → Type 0) where
-  pub searched_none : (xs ys : List (ℕ × List FieldValue)) (r : Option (ℕ × List ℕ)) → Searched B xs None → Searched B ys r → Searched B (xs ++ ys) r
-  searched_none [] ys r a b = b
-  searched_none (x ∷ xs) ys None a b = (a.0, searched_none xs ys None a.1 b)
-  searched_none (x ∷ xs) ys (Some q) a b = inr (a.0, searched_none xs ys (Some q) a.1 b)
-
-  pub searched_some : (xs ys : List (ℕ × List FieldValue)) (x : ℕ × List ℕ) → Searched B xs (Some x) → Searched B (xs ++ ys) (Some x)
-  searched_some [] ys x a = absurd a
-  searched_some (p ∷ xs) ys x (inl a) = inl a
-  searched_some (p ∷ xs) ys x (inr a) = inr (a.0, searched_some xs ys x a.1)
-
-  -- no pair has a breach
-  pub searched_clean : (ps : List (ℕ × List FieldValue)) → Searched B ps None → (i : ℕ) (shape : List FieldValue) (q : List ℕ) → Assigns ps i shape → B shape i q → ⊥
-  searched_clean [] s i shape q a b = a
-  searched_clean (p ∷ ps) s i shape q (inl e) b =
-      s.0 q (subst (λ (x : ℕ × List FieldValue). B x.1 x.0 q) (sym e) b)
-  searched_clean (p ∷ ps) s i shape q (inr a) b = searched_clean ps s.1 i shape q a b
-
   -- what was found is the least of all
   pub record Found (ps : List (ℕ × List FieldValue)) (i : ℕ) (q : List ℕ) : Type 0 where
     pub shape : List FieldValue
@@ -146,11 +129,6 @@ module _ (p : ProfileValue) (m : List SegmentValue) (wf : Determined p.nodes NoN
   compare zero (suc b) = inr (inr (omega arith))
   compare (suc a) zero = inl (omega arith)
   compare (suc a) (suc b) = elim (compare a b) [ inl h ↦ inl (omega arith) | inr h ↦ inr (elim h [ inl e ↦ inl (ap suc e) | inr l ↦ inr (omega arith) ]) ]
-
-  within : (i : ℕ) (xs : List SegmentValue) (s : SegmentValue) → slice_get xs i ≡ Some s → i < length xs
-  within i [] s e = absurd (cc)
-  within zero (x ∷ xs) s e = omega arith
-  within (suc i) (x ∷ xs) s e = let r = within i xs s e in omega arith
 
   -- kind 1
   module _ (n : ℕ) (s : SegmentValue) (here : slice_get m n ≡ Some s) (before : Begins p.nodes (names p.nodes (take n m))) (never : Begins p.nodes (names p.nodes (take (suc n) m)) → ⊥) where

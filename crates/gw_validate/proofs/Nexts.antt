@@ -8,7 +8,6 @@ use Rattle.gw_er7.specs.Entries.{Entry}
 use Rattle.gw_er7.specs.Message.{Texts, SegmentValue, IsSegment, IsEntry, first_field}
 use Rattle.gw_er7.specs.Presence.{SubAt, CompAt, RepAt, FieldAt, IsStart}
 use Rattle.gw_validate.specs.Breaches.{Counted, NotAfter}
-use Rattle.gw_validate.proofs.Leasts.{counted_yes}
 use Rattle.gw_validate.specs.own.Walk.{IsBefore, IsNextRep, IsNoRep}
 use Rattle.gw_validate.proofs.Walks.{self, up_to, before_on, from_start, start_at, start_end, less_here}
 use Rattle.gw_validate.proofs.Keys.{order, never_less}
@@ -187,6 +186,10 @@ some_counted P (suc n) r k p some le (inr c) = elim (cases_lt r (suc n)) as (λ 
   | inl lt ↦ some_counted P n r k p some (omega arith) c.1
   | inr ge ↦ absurd (c.0 (subst P (let same : r ≡ suc n = omega (arith, le, ge) in same) p))
 ]
+
+pub counted_yes : (P : ℕ → Type 0) (r k : ℕ) → 0 < r → Counted P (r - 1) k → P r → Counted P r (k + 1)
+counted_yes P zero k lt c p = absurd (omega arith)
+counted_yes P (suc r) k lt c p = inl (p, k, (let e : k + 1 ≡ suc k = omega arith in e), subst (λ j. Counted P j k) (let e : suc r - 1 ≡ r = omega arith in e) c)
 
 pub next_counted : (P : ℕ → Type 0) (n r k : ℕ) → n < r → P r → ((j : ℕ) → n < j → P j → r ≤ j) → Counted P n k → Counted P r (k + 1)
 next_counted P n r k lt p first c = counted_yes P r k (omega arith) (counted_gap P n r k lt first c) p

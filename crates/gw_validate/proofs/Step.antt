@@ -1,10 +1,10 @@
 -- What is left of a forest after one name.
-use Rattle.std.proofs.Common.{◌≡◌, ◌⊎◌, inl, inr, List, [], ◌∷◌, ◌++◌, refl, sym, ap, ◌∙◌, subst, arith}
+use Rattle.std.proofs.Common.{◌≡◌, inl, inr, List, [], ◌∷◌, ◌++◌, refl, sym, ap, ◌∙◌, subst, arith}
 use Rattle.gw_profile.specs.Shapes.{Forest, nothing, segment, group}
 use Rattle.gw_validate.specs.Cuts.{Cut, Fits}
 use Rattle.gw_validate.specs.own.Residual.{append}
-use Rattle.gw_validate.proofs.Cuts.{passed, taken, starts, begin_passed, none, cut_left, cut_right, cut_map}
-use Rattle.gw_profile.specs.Deterministic.{Name, AtMost, First, Optional, Demands, Follows, Determined}
+use Rattle.gw_validate.proofs.Cuts.{passed, taken, starts, none, cut_left, cut_right, cut_map}
+use Rattle.gw_profile.specs.Deterministic.{Name, First, Optional, Demands, Follows, Determined}
 
 pub fits_join : (f g : Forest) (l : List Name) → Fits (append f g) l → Cut (Fits f) (Fits g) l
 fits_join nothing g l h = record { front = []; back = l; joined = refl; here = refl; there = h }
@@ -17,11 +17,6 @@ pub join_fits : (f g : Forest) (l : List Name) → Cut (Fits f) (Fits g) l → F
 join_fits nothing g l h = subst (Fits g) (sym (h.joined ∙ ap (λ a. a ++ h.back) h.here)) h.there
 join_fits (segment sv rest) g l h = cut_map _ _ _ l (join_fits rest g) (cut_right _ _ _ l h)
 join_fits (group gv ch rest) g l h = cut_map _ _ _ l (join_fits rest g) (cut_right _ _ _ l h)
-
-regroup : (P : Type 0) (z : Type 0) (F O : Type 0) → P ⊎ (z × (F ⊎ O)) → (P ⊎ (z × F)) ⊎ (z × O)
-regroup P z F O (inl p) = inl (inl p)
-regroup P z F O (inr (q, inl f)) = inl (inr (q, f))
-regroup P z F O (inr (q, inr o)) = inr (q, o)
 
 pub clash : (f : Forest) → Demands f → Optional f → ⊥
 clash nothing d o = d
@@ -70,13 +65,6 @@ empty_fits (segment sv rest) A w h =
     let r = none (λ one. one ≡ sv.name ∷ []) (Fits rest) sv.card.min sv.card.max (λ e. cc) h in (r.0, empty_fits rest A w.2 r.1)
 empty_fits (group gv ch rest) A w h =
     let r = none (Fits ch) (Fits rest) gv.card.min gv.card.max (λ e. clash ch w.1 (empty_fits ch _ w.3 e)) h in (r.0, empty_fits rest A w.4 r.1)
-
-pub optional_fits : (f : Forest) (A : Name → Type 0) → Determined f A → Optional f → Fits f []
-optional_fits nothing A w o = refl
-optional_fits (segment sv rest) A w o =
-    begin_passed _ _ sv.card.min sv.card.max [] o.0 (subst (AtMost sv.card.max) o.0 w.0) (optional_fits rest A w.2 o.1)
-optional_fits (group gv ch rest) A w o =
-    begin_passed _ _ gv.card.min gv.card.max [] o.0 (subst (AtMost gv.card.max) o.0 w.0) (optional_fits rest A w.4 o.1)
 
 pub child_full : (ch : Forest) (A : Name → Type 0) → Demands ch → Determined ch A → Fits ch [] → ⊥
 child_full ch A d w e = clash ch d (empty_fits ch A w e)

@@ -246,15 +246,6 @@ passes_segment s node rest x stack is none other = (
   refl,
 )
 
--- a frame that has no room, and may be left out
-pub spent : (n : Node) (due : Card) (rest : Forest) (x : Name) → has_room due.max ≡ false → due.min ≡ 0 → after_name (due_forest n due rest) x ≡ after_name rest x
-spent (Seg s) due rest x full none = rw (full, none) refl
-spent (Group' lb u c shape row) due rest x full none = rw (full, none) refl
-
-pub tries_spent : (f : Frame) (x : Name) (stack : List Frame) → has_room f.due.max ≡ false → f.due.min ≡ 0 → (after_name (forest f.rest.now) x ≡ None) × Optional (forest f.rest.now) → Tries (frame_forest f) x stack stack Passed
-tries_spent f x stack full none passed =
-    tried_behind f f.due x stack stack stack Passed (none, spent f.node.now f.due (forest f.rest.now) x full none, refl) (passed.0, passed.1, refl)
-
 -- a group that comes once more, and begins with a segment of this name
 module _ (f : Frame) (due' : Card) (x : Name) (old : List Frame) (node : Bor Node) (due'' : Card) (rest : Bor (List Node)) (s : declared_segment.SegNode) (fields : Bor (List FieldShape)) where
   abbrev Outer : Frame

@@ -1,6 +1,6 @@
 -- A walk over the entries of a segment, in order.
 use Rattle.std.proofs.Common.{◌≡◌, ℕ, zero, suc, ◌+◌, ◌<◌, ◌≤◌, inl, inr, Bool, true, false, List, [], ◌∷◌, Option, Some, None, refl, sym, ap, ◌∙◌, subst, arith, length, slice_get, unwrap_or, map, get_or, drop}
-use Rattle.std.specs.Prelude.{◌≢◌, ◌==◌, ◌&&◌, T, IfNone}
+use Rattle.std.specs.Prelude.{◌≢◌, ◌==◌, ◌&&◌, T}
 use Rattle.std.specs.declared.cmp.Ordering.{Ordering}
 use Rattle.std.specs.declared.cmp.Ordering.TheVariants.{Less, Equal, Greater}
 use Rattle.std.specs.Ordering.{is_lt, ordering_reverse}
@@ -232,7 +232,3 @@ behind_comp f r c s t es n b within at = before_more (f ∷ r ∷ (c + 1) ∷ 0 
         let in_field = seconds f f (r ∷ (c + 1) ∷ 0 ∷ []) (r ∷ c ∷ s ∷ []) refl n in
         let in_rep = seconds r r ((c + 1) ∷ 0 ∷ []) (c ∷ s ∷ []) refl in_field in
         omega (arith, heads (c + 1) c (0 ∷ []) (s ∷ []) in_rep)
-
-pub where_none : {A : Type 0} {P : Type 0} (o : Option A) → P → IfNone o P
-where_none None p = p
-where_none (Some x) p = tt

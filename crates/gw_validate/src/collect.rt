@@ -10,8 +10,7 @@ ghost use Rattle.gw_validate.specs.own.Least.{ShapeRises, BreachAt};
 ghost use Rattle.gw_validate.specs.own.Taking.{paired, shape_of};
 
 use crate::breach::Breach;
-use crate::fields::Spot;
-use crate::gather::gather;
+use crate::fields::{Spot, visit_fields};
 use crate::listing::{listed, name_at};
 use crate::verdict::{Placed, place_segments};
 use gw_er7::Message;
@@ -35,7 +34,7 @@ fn find_in_segment(
 {
     let segment = message.segment(number);
     let mut spots = Vec::new(alloc);
-    gather(profile, &segment, fields, &mut spots)?;
+    visit_fields(profile, &segment, fields, &mut spots)?;
     for spot in spots.as_slice() {
         found.push((number, *spot))?;
     }

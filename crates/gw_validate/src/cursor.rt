@@ -117,7 +117,6 @@ pub(crate) fn next_rep(
     ensures next { MatchOption result (IsNoRep segment.now.at field after) (IsNextRep segment.now.at field after) }
     ensures here { MatchOption result (IsBefore ((field + 1) ∷ 0 ∷ 0 ∷ 0 ∷ []) (texts.entries segment.now.at) near.new)
         (λ rep. IsBefore (field ∷ rep ∷ 0 ∷ 0 ∷ []) (texts.entries segment.now.at) near.new) }
-    ensures near { IsBefore (field ∷ (after + 1) ∷ 0 ∷ 0 ∷ []) (texts.entries segment.now.at) near.new }
 {
     // (its clause says what every segment keeps)
     let _count = segment.value_count();
@@ -182,17 +181,4 @@ pub(crate) fn is_there(segment: &Segment<'_>, field: usize, first: Option<usize>
     ensures some { (rep : ℕ) → RepAt segment.now.at field rep → 0 < rep }
 {
     first.is_some()
-}
-
-/// Whether a field is present. It is looked for from the number `near` on, which rises to its first text.
-#[inline(always)]
-pub(crate) fn has_field(segment: &Segment<'_>, near: &mut usize, field: usize) -> bool
-    requires { IsBefore (field ∷ 1 ∷ 0 ∷ 0 ∷ []) (texts.entries segment.now.at) near.old }
-    ensures yes { result ≡ true → FieldAt segment.now.at field }
-    ensures no { result ≡ false → FieldAt segment.now.at field → ⊥ }
-    ensures near { IsBefore (field ∷ 1 ∷ 0 ∷ 0 ∷ []) (texts.entries segment.now.at) near.new }
-    ensures some { (rep : ℕ) → RepAt segment.now.at field rep → 0 < rep }
-{
-    let first = next_rep(segment, near, field, 0);
-    is_there(segment, field, first)
 }

@@ -1,20 +1,19 @@
-//! The least breach of a segment's shape.
-ghost use Rattle.std.specs.Prelude.{◌≡◌, ℕ, ◌<◌, ◌≤◌, ◌+◌, ◌-◌, ◌∷◌, [], false, true, map, if◌then◌else◌};
-ghost use Rattle.std.specs.Prelude.{Some, None, option_map, IfNone, IfSome, MatchOption};
+//! A walk over a segment beside its shape, which comes to each breach in order.
+ghost use Rattle.std.specs.Prelude.{◌≡◌, ℕ, ◌<◌, ◌≤◌, ◌+◌, ◌-◌, ◌∷◌, [], false, true, map, OnOk, IfSome, MatchOption};
 ghost use Rattle.std.specs.List.{AllByRecursion};
 ghost use Rattle.std.specs.FinMap as texts;
 ghost use Rattle.gw_er7.specs.Presence.{FieldAt, RepAt, CompAt, IsStart};
 ghost use Rattle.gw_profile.specs.Seen.{sub, comp as comp_value, field as field_value, items_of, profile_value};
-ghost use Rattle.gw_validate.specs.declared.breach.Kind.TheVariants.{MissingValue};
 ghost use Rattle.gw_validate.specs.Kinds.{number_of};
 ghost use Rattle.gw_validate.specs.Breaches.{is_required, is_forbidden, is_long, is_unlisted, is_null, Counted};
 ghost use Rattle.gw_validate.specs.Breaches.{SubBreach, CompBreach, RepBreach, RepsBreach, FieldBreach, SegmentBreach};
-ghost use Rattle.gw_validate.specs.own.Least.{Least, SubsBreach, CompsBreach, is_full};
-ghost use Rattle.gw_validate.specs.own.Least.{CompRises, FieldRises, ShapeRises, Rises, comp_key, rep_key, field_key, segment_key};
+ghost use Rattle.gw_validate.specs.own.Least.{SubsBreach, CompsBreach, is_full, CompRises, FieldRises, ShapeRises, Rises};
+ghost use Rattle.gw_validate.specs.own.Gathering.{Visits, Under, Only};
 ghost use Rattle.gw_validate.specs.own.Walk.{IsBefore, IsOnly, IsValueAt, IsNextRep, IsNoRep, IsCount, IsShort};
 
 use crate::breach::Kind;
 use crate::cursor::{first_from, first_rep, is_there, next_rep, text_from};
+use crate::visitor::AtBreach;
 use gw_er7::{Place, Segment, Value};
 use gw_profile::{CompShape, Count, FieldShape, Profile, SubShape, Usage, measure};
 
@@ -41,7 +40,7 @@ pub(crate) fn of_kind(kind: Kind) -> Spot
     }
 }
 
-pub(crate) fn is_required(usage: Usage) -> bool
+fn is_required(usage: Usage) -> bool
     ensures { result ≡ is_required usage }
 {
     match usage {
@@ -50,7 +49,7 @@ pub(crate) fn is_required(usage: Usage) -> bool
     }
 }
 
-pub(crate) fn is_forbidden(usage: Usage) -> bool
+fn is_forbidden(usage: Usage) -> bool
     ensures { result ≡ is_forbidden usage }
 {
     match usage {
@@ -59,13 +58,13 @@ pub(crate) fn is_forbidden(usage: Usage) -> bool
     }
 }
 
-pub(crate) fn is_null(text: &[u8]) -> bool
+fn is_null(text: &[u8]) -> bool
     ensures { result ≡ is_null text.now }
 {
     text == b"\"\"".as_slice()
 }
 
-pub(crate) fn is_long(count: Count, len: Option<u32>, text: &[u8]) -> bool
+fn is_long(count: Count, len: Option<u32>, text: &[u8]) -> bool
     ensures { result ≡ is_long count len text.now }
 {
     match len {
@@ -75,7 +74,7 @@ pub(crate) fn is_long(count: Count, len: Option<u32>, text: &[u8]) -> bool
 }
 
 #[inline(always)]
-pub(crate) fn is_unlisted(profile: &Profile, table: &Option<Vec<u8>>, text: &[u8]) -> bool
+fn is_unlisted(profile: &Profile, table: &Option<Vec<u8>>, text: &[u8]) -> bool
     ensures { result ≡ is_unlisted profile.now.tables (items_of table.now) text.now }
 {
     let Some(name) = table else {
@@ -87,71 +86,79 @@ pub(crate) fn is_unlisted(profile: &Profile, table: &Option<Vec<u8>>, text: &[u8
     }
 }
 
-// The least kind of breach at a leaf.
+// Visits the breach of this kind at a place, where the test holds.
 #[inline(always)]
-fn sub_breach(profile: &Profile, shape: &SubShape, text: &[u8]) -> Option<Kind>
-    ensures { Least (SubBreach (profile_value profile.now) (sub shape.now) text.now) (option_map (λ kind. number_of kind ∷ []) result) }
+fn visit_if<V: AtBreach>(
+    visitor: &mut V,
+    test: bool,
+    place: Place,
+    kind: Kind,
+) -> Result<(), V::Stop>
+    ensures { Visits V.stopped (Only test (place.field ∷ place.rep ∷ place.comp ∷ place.sub ∷ number_of kind ∷ []))
+        (V.seen visitor.old) (V.seen visitor.new) result }
+{
+    if test {
+        return visitor.breach(Spot {
+            field: place.field,
+            rep: place.rep,
+            comp: place.comp,
+            sub: place.sub,
+            kind,
+        });
+    }
+    Ok(())
+}
+
+// Visits the breaches at a leaf.
+#[inline(always)]
+fn visit_leaf<V: AtBreach>(
+    profile: &Profile,
+    shape: &SubShape,
+    text: &[u8],
+    place: Place,
+    visitor: &mut V,
+) -> Result<(), V::Stop>
+    ensures { Visits V.stopped (Under (place.field ∷ place.rep ∷ place.comp ∷ place.sub ∷ [])
+        (SubBreach (profile_value profile.now) (sub shape.now) text.now)) (V.seen visitor.old) (V.seen visitor.new) result }
 {
     if text.len() == 0 {
-        return absent_sub(shape);
+        return visit_if(visitor, is_required(shape.usage), place, Kind::MissingValue);
     }
-    if is_forbidden(shape.usage) {
-        return Some(Kind::Forbidden);
-    }
+    visit_if(visitor, is_forbidden(shape.usage), place, Kind::Forbidden)?;
     if is_null(text) {
-        return None;
+        return Ok(());
     }
-    if is_long(profile.count(), shape.len, text) {
-        return Some(Kind::TooLong);
-    }
-    if is_unlisted(profile, &shape.table, text) {
-        return Some(Kind::NotInTable);
-    }
-    None
+    let is_long = is_long(profile.count(), shape.len, text);
+    visit_if(visitor, is_long, place, Kind::TooLong)?;
+    let is_unlisted = is_unlisted(profile, &shape.table, text);
+    visit_if(visitor, is_unlisted, place, Kind::NotInTable)
 }
 
-// The breach at a leaf that is absent.
-fn absent_sub(shape: &SubShape) -> Option<Kind>
-    ensures { result ≡ (if is_required shape.now.usage then Some MissingValue else None) }
-{
-    if is_required(shape.usage) {
-        Some(Kind::MissingValue)
-    } else {
-        None
-    }
-}
-
-// The least breach at the leaves of a component that is present. Its texts are looked for from the number `near` on, which rises to the text behind them.
-fn subs_breach(
+// Visits the breaches at the leaves of a component that is present. Its texts are looked for from the number `near` on, which rises to the text behind them.
+fn visit_leaves<V: AtBreach>(
     profile: &Profile,
     segment: &Segment<'_>,
     near: &mut usize,
-    field: usize,
-    rep: usize,
-    comp: usize,
+    comp: Place,
     subs: &[SubShape],
-) -> Option<Spot>
+    visitor: &mut V,
+) -> Result<(), V::Stop>
     requires rises { Rises (λ s. s.number) 0 (map sub subs.now) }
-    requires near { IsBefore (field ∷ rep ∷ comp ∷ 1 ∷ []) (texts.entries segment.now.at) near.old }
-    ensures least { Least (SubsBreach (profile_value profile.now) segment.now.at field rep comp (map sub subs.now)) (option_map comp_key result) }
-    ensures near { IfNone result (IsBefore (field ∷ rep ∷ (comp + 1) ∷ 0 ∷ []) (texts.entries segment.now.at) near.new) }
+    requires near { IsBefore (comp.field ∷ comp.rep ∷ comp.comp ∷ 1 ∷ []) (texts.entries segment.now.at) near.old }
+    ensures all { Visits V.stopped (Under (comp.field ∷ comp.rep ∷ comp.comp ∷ [])
+        (SubsBreach (profile_value profile.now) segment.now.at comp.field comp.rep comp.comp (map sub subs.now)))
+        (V.seen visitor.old) (V.seen visitor.new) result }
+    ensures near { OnOk result (IsBefore (comp.field ∷ comp.rep ∷ (comp.comp + 1) ∷ 0 ∷ []) (texts.entries segment.now.at) near.new) }
 {
     for sub in subs {
         let place = Place {
-            field,
-            rep,
-            comp,
             sub: sub.number as usize,
+            ..comp
         };
         let text = text_from(segment, near, place);
-        if let Some(kind) = sub_breach(profile, sub, text) {
-            return Some(Spot {
-                sub: sub.number as usize,
-                ..of_kind(kind)
-            });
-        }
+        visit_leaf(profile, sub, text, place, visitor)?;
     }
-    None
+    Ok(())
 }
 
 // The leaf of a component, where it has this one alone and its number is the one given.
@@ -169,59 +176,39 @@ fn only_leaf(subs: &[SubShape], number: usize) -> Option<&SubShape>
     }
 }
 
-// What a breach at a leaf says.
-fn at_leaf(shape: &SubShape, kind: Option<Kind>) -> Option<Spot>
-    ensures { option_map comp_key result ≡ option_map (λ kind. shape.now.number ∷ number_of kind ∷ []) kind }
-{
-    match kind {
-        Some(kind) => Some(Spot {
-            sub: shape.number as usize,
-            ..of_kind(kind)
-        }),
-        None => None,
-    }
-}
-
-// The least breach at the leaves of a component that is present, of which the first text is known, with its number `near`.
-fn leaves_breach(
+// Visits the same breaches, where the first text of the component is known, with its number `near`: one leaf alone takes this text.
+fn visit_texts<V: AtBreach>(
     profile: &Profile,
     segment: &Segment<'_>,
     near: &mut usize,
     found: Option<Value<'_>>,
     comp: Place,
     subs: &[SubShape],
-) -> Option<Spot>
+    visitor: &mut V,
+) -> Result<(), V::Stop>
     requires rises { Rises (λ s. s.number) 0 (map sub subs.now) }
     requires there { CompAt segment.now.at comp.field comp.rep comp.comp }
     requires start { IsStart (comp.field ∷ comp.rep ∷ comp.comp ∷ 0 ∷ []) (texts.entries segment.now.at) near.old }
     requires value { IsValueAt (texts.entries segment.now.at) near.old found }
-    ensures least { Least (SubsBreach (profile_value profile.now) segment.now.at comp.field comp.rep comp.comp (map sub subs.now))
-        (option_map comp_key result) }
-    ensures near { IfNone result (IsBefore (comp.field ∷ comp.rep ∷ (comp.comp + 1) ∷ 0 ∷ []) (texts.entries segment.now.at) near.new) }
+    ensures all { Visits V.stopped (Under (comp.field ∷ comp.rep ∷ comp.comp ∷ [])
+        (SubsBreach (profile_value profile.now) segment.now.at comp.field comp.rep comp.comp (map sub subs.now)))
+        (V.seen visitor.old) (V.seen visitor.new) result }
+    ensures near { OnOk result (IsBefore (comp.field ∷ comp.rep ∷ (comp.comp + 1) ∷ 0 ∷ []) (texts.entries segment.now.at) near.new) }
 {
     // (its clause says what every segment keeps)
     let _count = segment.value_count();
     let Some(value) = found else {
-        return None;
+        return Ok(());
     };
     let Some(leaf) = only_leaf(subs, value.place.sub) else {
-        return subs_breach(
-            profile, segment, near, comp.field, comp.rep, comp.comp, subs,
-        );
+        return visit_leaves(profile, segment, near, comp, subs, visitor);
     };
     *near += 1;
-    at_leaf(leaf, sub_breach(profile, leaf, value.text))
-}
-
-// The breach at a component that is absent.
-fn absent_comp(shape: &CompShape) -> Option<Spot>
-    ensures { option_map comp_key result ≡ (if is_required shape.now.usage then Some (0 ∷ 3 ∷ []) else None) }
-{
-    if is_required(shape.usage) {
-        Some(of_kind(Kind::MissingValue))
-    } else {
-        None
-    }
+    let place = Place {
+        sub: value.place.sub,
+        ..comp
+    };
+    visit_leaf(profile, leaf, value.text, place, visitor)
 }
 
 // Whether a place is of a component.
@@ -240,7 +227,7 @@ fn is_of(place: Place, field: usize, rep: usize, comp: usize) -> bool
 
 // Whether a component is present, where the first text from it on is known, with its number.
 #[inline(always)]
-pub(crate) fn has_comp(
+fn has_comp(
     segment: &Segment<'_>,
     at: usize,
     found: Option<Value<'_>>,
@@ -261,19 +248,22 @@ pub(crate) fn has_comp(
     }
 }
 
-// The least breach of a component.
-fn comp_breach(
+// Visits the breaches of a component.
+fn visit_comp<V: AtBreach>(
     profile: &Profile,
     segment: &Segment<'_>,
     near: &mut usize,
     field: usize,
     rep: usize,
     shape: &CompShape,
-) -> Option<Spot>
+    visitor: &mut V,
+) -> Result<(), V::Stop>
     requires rises { CompRises (comp_value shape.now) }
     requires near { IsBefore (field ∷ rep ∷ shape.now.number ∷ 0 ∷ []) (texts.entries segment.now.at) near.old }
-    ensures least { Least (CompBreach (profile_value profile.now) segment.now.at field rep (comp_value shape.now)) (option_map comp_key result) }
-    ensures near { IfNone result (IsBefore (field ∷ rep ∷ (shape.now.number + 1) ∷ 0 ∷ []) (texts.entries segment.now.at) near.new) }
+    ensures all { Visits V.stopped (Under (field ∷ rep ∷ shape.now.number ∷ [])
+        (CompBreach (profile_value profile.now) segment.now.at field rep (comp_value shape.now)))
+        (V.seen visitor.old) (V.seen visitor.new) result }
+    ensures near { OnOk result (IsBefore (field ∷ rep ∷ (shape.now.number + 1) ∷ 0 ∷ []) (texts.entries segment.now.at) near.new) }
 {
     let place = Place {
         field,
@@ -284,42 +274,38 @@ fn comp_breach(
     let (at, found) = first_from(segment, *near, place);
     *near = at;
     if !has_comp(segment, at, found, field, rep, place.comp) {
-        return absent_comp(shape);
+        return visit_if(visitor, is_required(shape.usage), place, Kind::MissingValue);
     }
-    if is_forbidden(shape.usage) {
-        return Some(of_kind(Kind::Forbidden));
-    }
-    leaves_breach(profile, segment, near, found, place, &shape.subs)
+    visit_if(visitor, is_forbidden(shape.usage), place, Kind::Forbidden)?;
+    visit_texts(profile, segment, near, found, place, &shape.subs, visitor)
 }
 
-// The least breach at the components of a repetition.
-fn comps_breach(
+// Visits the breaches at the components of a repetition.
+fn visit_comps<V: AtBreach>(
     profile: &Profile,
     segment: &Segment<'_>,
     near: &mut usize,
     field: usize,
     rep: usize,
     comps: &[CompShape],
-) -> Option<Spot>
+    visitor: &mut V,
+) -> Result<(), V::Stop>
     requires rises { Rises (λ c. c.number) 0 (map comp_value comps.now) }
     requires each { AllByRecursion CompRises (map comp_value comps.now) }
     requires near { IsBefore (field ∷ rep ∷ 0 ∷ 0 ∷ []) (texts.entries segment.now.at) near.old }
-    ensures least { Least (CompsBreach (profile_value profile.now) segment.now.at field rep (map comp_value comps.now)) (option_map rep_key result) }
-    ensures near { IfNone result (IsBefore (field ∷ (rep + 1) ∷ 0 ∷ 0 ∷ []) (texts.entries segment.now.at) near.new) }
+    ensures all { Visits V.stopped (Under (field ∷ rep ∷ [])
+        (CompsBreach (profile_value profile.now) segment.now.at field rep (map comp_value comps.now)))
+        (V.seen visitor.old) (V.seen visitor.new) result }
+    ensures near { OnOk result (IsBefore (field ∷ (rep + 1) ∷ 0 ∷ 0 ∷ []) (texts.entries segment.now.at) near.new) }
 {
     for comp in comps {
-        if let Some(found) = comp_breach(profile, segment, near, field, rep, comp) {
-            return Some(Spot {
-                comp: comp.number as usize,
-                ..found
-            });
-        }
+        visit_comp(profile, segment, near, field, rep, comp, visitor)?;
     }
-    None
+    Ok(())
 }
 
 // Whether this many are all that may come.
-pub(crate) fn is_full(max: Option<u32>, count: usize) -> bool
+fn is_full(max: Option<u32>, count: usize) -> bool
     ensures { result ≡ is_full max count }
 {
     match max {
@@ -328,51 +314,64 @@ pub(crate) fn is_full(max: Option<u32>, count: usize) -> bool
     }
 }
 
-// The least breach in a repetition that is present, with this many before it.
-fn rep_breach(
+// Whether a repetition with this many before it is one too many.
+fn is_beyond(shape: &FieldShape, before: usize) -> bool
+    ensures yes { result ≡ true → (is_forbidden shape.now.usage ≡ false) × (is_full shape.now.card.max before ≡ true) }
+    ensures no { result ≡ false → is_forbidden shape.now.usage ≡ false → is_full shape.now.card.max before ≡ true → ⊥ }
+{
+    if is_forbidden(shape.usage) {
+        return false;
+    }
+    is_full(shape.card.max, before)
+}
+
+// Visits the breaches of a repetition that is present, with this many before it.
+fn visit_rep<V: AtBreach>(
     profile: &Profile,
     segment: &Segment<'_>,
     near: &mut usize,
     shape: &FieldShape,
     rep: usize,
     before: usize,
-) -> Option<Spot>
+    visitor: &mut V,
+) -> Result<(), V::Stop>
     requires rises { FieldRises (field_value shape.now) }
     requires before { Counted (RepAt segment.now.at shape.now.number) (rep - 1) before }
-    requires usage { is_forbidden shape.now.usage ≡ false }
     requires near { IsBefore (shape.now.number ∷ rep ∷ 0 ∷ 0 ∷ []) (texts.entries segment.now.at) near.old }
-    ensures least { Least (RepBreach (profile_value profile.now) segment.now.at (field_value shape.now) rep) (option_map rep_key result) }
-    ensures near { IfNone result (IsBefore (shape.now.number ∷ (rep + 1) ∷ 0 ∷ 0 ∷ []) (texts.entries segment.now.at) near.new) }
+    ensures all { Visits V.stopped (Under (shape.now.number ∷ rep ∷ [])
+        (RepBreach (profile_value profile.now) segment.now.at (field_value shape.now) rep))
+        (V.seen visitor.old) (V.seen visitor.new) result }
+    ensures near { OnOk result (IsBefore (shape.now.number ∷ (rep + 1) ∷ 0 ∷ 0 ∷ []) (texts.entries segment.now.at) near.new) }
 {
-    if is_full(shape.card.max, before) {
-        return Some(of_kind(Kind::TooManyReps));
-    }
-    comps_breach(
-        profile,
-        segment,
-        near,
-        shape.number as usize,
+    let field = shape.number as usize;
+    let place = Place {
+        field,
         rep,
-        &shape.comps,
-    )
+        comp: 0,
+        sub: 0,
+    };
+    visit_if(visitor, is_beyond(shape, before), place, Kind::TooManyReps)?;
+    visit_comps(profile, segment, near, field, rep, &shape.comps, visitor)
 }
 
-// The least breach in the repetitions of a field, of which the first that is present is known.
-fn reps_breach(
+// Visits the breaches in the repetitions of a field, of which the first that is present is known.
+fn visit_reps<V: AtBreach>(
     profile: &Profile,
     segment: &Segment<'_>,
     near: &mut usize,
     shape: &FieldShape,
     first: Option<usize>,
-) -> Option<Spot>
+    visitor: &mut V,
+) -> Result<(), V::Stop>
     requires rises { FieldRises (field_value shape.now) }
     requires some { (rep : ℕ) → RepAt segment.now.at shape.now.number rep → 0 < rep }
-    requires usage { is_forbidden shape.now.usage ≡ false }
     requires next { MatchOption first (IsNoRep segment.now.at shape.now.number 0) (IsNextRep segment.now.at shape.now.number 0) }
     requires here { MatchOption first (IsBefore ((shape.now.number + 1) ∷ 0 ∷ 0 ∷ 0 ∷ []) (texts.entries segment.now.at) near.old)
         (λ rep. IsBefore (shape.now.number ∷ rep ∷ 0 ∷ 0 ∷ []) (texts.entries segment.now.at) near.old) }
-    ensures least { Least (RepsBreach (profile_value profile.now) segment.now.at (field_value shape.now)) (option_map field_key result) }
-    ensures near { IfNone result (IsBefore ((shape.now.number + 1) ∷ 0 ∷ 0 ∷ 0 ∷ []) (texts.entries segment.now.at) near.new) }
+    ensures all { Visits V.stopped (Under (shape.now.number ∷ [])
+        (RepsBreach (profile_value profile.now) segment.now.at (field_value shape.now)))
+        (V.seen visitor.old) (V.seen visitor.new) result }
+    ensures near { OnOk result (IsBefore ((shape.now.number + 1) ∷ 0 ∷ 0 ∷ 0 ∷ []) (texts.entries segment.now.at) near.new) }
 {
     let field = shape.number as usize;
     let mut before = 0;
@@ -380,13 +379,11 @@ fn reps_breach(
     let mut found = first;
     while let Some(next) = found {
         rep = next;
-        if let Some(breach) = rep_breach(profile, segment, near, shape, rep, before) {
-            return Some(Spot { rep, ..breach });
-        }
+        visit_rep(profile, segment, near, shape, rep, before, visitor)?;
         before += 1;
         found = next_rep(segment, near, field, rep);
     }
-    None
+    Ok(())
 }
 
 // How many repetitions of a field are present. They are looked for from the text of this number on.
@@ -405,12 +402,7 @@ fn count_reps(segment: &Segment<'_>, near: usize, field: usize) -> usize
 }
 
 // Whether fewer repetitions of a field are present than must be. Where one is enough, none is counted.
-pub(crate) fn comes_short(
-    segment: &Segment<'_>,
-    near: usize,
-    shape: &FieldShape,
-    present: bool,
-) -> bool
+fn comes_short(segment: &Segment<'_>, near: usize, shape: &FieldShape, present: bool) -> bool
     requires near { IsBefore (shape.now.number ∷ 1 ∷ 0 ∷ 0 ∷ []) (texts.entries segment.now.at) near }
     requires present { present ≡ true → FieldAt segment.now.at shape.now.number }
     requires some { (rep : ℕ) → RepAt segment.now.at shape.now.number rep → 0 < rep }
@@ -427,67 +419,67 @@ pub(crate) fn comes_short(
     (count as u64) < u64::from(shape.card.min)
 }
 
-// The breach of a field behind the last text of a segment.
-fn absent_field(shape: &FieldShape) -> Option<Spot>
-    ensures yes { is_forbidden shape.now.usage ≡ false → 0 < shape.now.card.min → option_map field_key result ≡ Some (0 ∷ 0 ∷ 0 ∷ 3 ∷ []) }
-    ensures no { (is_forbidden shape.now.usage ≡ false → 0 < shape.now.card.min → ⊥) → option_map field_key result ≡ None }
+// Whether a field of which no repetition is present has to come.
+fn has_to_come(shape: &FieldShape) -> bool
+    ensures yes { result ≡ true → (is_forbidden shape.now.usage ≡ false) × (0 < shape.now.card.min) }
+    ensures no { result ≡ false → is_forbidden shape.now.usage ≡ false → 0 < shape.now.card.min → ⊥ }
 {
     if is_forbidden(shape.usage) {
-        return None;
+        return false;
     }
-    if shape.card.min == 0 {
-        return None;
-    }
-    Some(of_kind(Kind::MissingValue))
+    shape.card.min != 0
 }
 
-// The least breach of a field. Its texts are looked for from the number `near` on, which rises to the text behind them.
-fn field_breach(
+// Visits the breaches of a field. Its texts are looked for from the number `near` on, which rises to the text behind them.
+fn visit_field<V: AtBreach>(
     profile: &Profile,
     segment: &Segment<'_>,
     near: &mut usize,
     shape: &FieldShape,
-) -> Option<Spot>
+    visitor: &mut V,
+) -> Result<(), V::Stop>
     requires rises { FieldRises (field_value shape.now) }
     requires near { IsBefore (shape.now.number ∷ 1 ∷ 0 ∷ 0 ∷ []) (texts.entries segment.now.at) near.old }
-    ensures least { Least (FieldBreach (profile_value profile.now) segment.now.at (field_value shape.now)) (option_map field_key result) }
-    ensures near { IfNone result (IsBefore ((shape.now.number + 1) ∷ 0 ∷ 0 ∷ 0 ∷ []) (texts.entries segment.now.at) near.new) }
+    ensures all { Visits V.stopped (Under (shape.now.number ∷ [])
+        (FieldBreach (profile_value profile.now) segment.now.at (field_value shape.now)))
+        (V.seen visitor.old) (V.seen visitor.new) result }
+    ensures near { OnOk result (IsBefore ((shape.now.number + 1) ∷ 0 ∷ 0 ∷ 0 ∷ []) (texts.entries segment.now.at) near.new) }
 {
+    let place = Place {
+        field: shape.number as usize,
+        rep: 0,
+        comp: 0,
+        sub: 0,
+    };
+    // (behind the last text no field is present)
     if *near >= segment.value_count() {
-        return absent_field(shape);
+        return visit_if(visitor, has_to_come(shape), place, Kind::MissingValue);
     }
-    let field = shape.number as usize;
-    let first = first_rep(segment, near, field);
-    let present = is_there(segment, field, first);
+    let first = first_rep(segment, near, place.field);
+    let present = is_there(segment, place.field, first);
     if is_forbidden(shape.usage) {
-        if !present {
-            return None;
-        }
-        return Some(of_kind(Kind::Forbidden));
+        visit_if(visitor, present, place, Kind::Forbidden)?;
+        return visit_reps(profile, segment, near, shape, first, visitor);
     }
-    if comes_short(segment, *near, shape, present) {
-        return Some(of_kind(Kind::MissingValue));
-    }
-    reps_breach(profile, segment, near, shape, first)
+    let is_short = comes_short(segment, *near, shape, present);
+    visit_if(visitor, is_short, place, Kind::MissingValue)?;
+    visit_reps(profile, segment, near, shape, first, visitor)
 }
 
-/// The least breach of a segment's shape.
-pub(crate) fn least_breach(
+/// Visits the breaches of a segment's shape, in order.
+pub(crate) fn visit_fields<V: AtBreach>(
     profile: &Profile,
     segment: &Segment<'_>,
     fields: &[FieldShape],
-) -> Option<Spot>
+    visitor: &mut V,
+) -> Result<(), V::Stop>
     requires { ShapeRises (map field_value fields.now) }
-    ensures { Least (SegmentBreach (profile_value profile.now) (map field_value fields.now) segment.now.at) (option_map segment_key result) }
+    ensures { Visits V.stopped (SegmentBreach (profile_value profile.now) (map field_value fields.now) segment.now.at)
+        (V.seen visitor.old) (V.seen visitor.new) result }
 {
     let mut near = 0;
     for field in fields {
-        if let Some(found) = field_breach(profile, segment, &mut near, field) {
-            return Some(Spot {
-                field: field.number as usize,
-                ..found
-            });
-        }
+        visit_field(profile, segment, &mut near, field, visitor)?;
     }
-    None
+    Ok(())
 }

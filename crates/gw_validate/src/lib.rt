@@ -6,7 +6,6 @@ mod build;
 mod collect;
 mod cursor;
 mod fields;
-mod gather;
 pub mod laws;
 mod listing;
 mod next;
@@ -15,6 +14,7 @@ mod occurrences;
 mod search;
 mod tree;
 mod verdict;
+mod visitor;
 mod walk;
 
 pub use breach::{Breach, Kind};

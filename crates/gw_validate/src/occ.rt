@@ -4,7 +4,6 @@ ghost use Rattle.std.specs.List.{AllByRecursion};
 ghost use Rattle.gw_er7.specs.Message.{SegmentValue};
 ghost use Rattle.gw_profile.specs.Seen.{forest};
 ghost use Rattle.gw_validate.specs.Viewing.{count_at, occurrence_at, numbered_or};
-ghost use Rattle.gw_validate.specs.own.Judging.{IsKept};
 ghost use Rattle.gw_validate.specs.own.Lending.{row_tree, shown_number, shown_tree, IsOf};
 ghost use Rattle.gw_validate.specs.own.Occurring.{IsOrdered};
 
@@ -90,7 +89,6 @@ pub struct Occ<'a> {
 }
 
 impl<'a> Model for Occ<'a> {
-    ghost use Rattle.std.specs.Prelude.{ℕ, List, Option};
     ghost use Rattle.std.specs.Coded.{codes};
     ghost use Rattle.gw_er7.specs.Message.{segment_code};
     ghost use Rattle.gw_validate.specs.Stored.{tree_code};
@@ -107,7 +105,7 @@ impl<'a> Model for Occ<'a> {
 }
 
 impl<'a> Occ<'a> {
-    ghost use Rattle.std.specs.Prelude.{◌≡◌, ◌<◌, length, Some, None};
+    ghost use Rattle.std.specs.Prelude.{◌≡◌, ◌<◌, Some, None};
     ghost use Rattle.gw_profile.specs.Seen.{forest};
     ghost use Rattle.gw_validate.specs.Viewing.{width, count_at, occurrence_at, occurrence_of};
     ghost use Rattle.gw_validate.specs.Fitting.{IsLent, segment_of};

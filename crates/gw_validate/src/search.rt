@@ -5,7 +5,8 @@ ghost use Rattle.gw_profile.specs.Seen.{profile_value};
 ghost use Rattle.gw_validate.specs.own.Least.{ShapeRises, FindsBreach};
 ghost use Rattle.gw_validate.specs.own.Taking.{paired, shape_of};
 
-use crate::fields::{Spot, least_breach};
+use crate::fields::{Spot, visit_fields};
+use crate::visitor::First;
 use gw_er7::Message;
 use gw_profile::{FieldShape, Profile};
 
@@ -24,7 +25,7 @@ pub(crate) fn search(
     for (i, fields) in shapes.iter().enumerate() {
         let number = numbers[i];
         let segment = message.segment(number);
-        if let Some(spot) = least_breach(profile, &segment, fields) {
+        if let Err(spot) = visit_fields(profile, &segment, fields, &mut First) {
             return Some((number, spot));
         }
     }

@@ -1,6 +1,4 @@
 -- Trees as a program goes over them: one behind another; and how large a profile is.
-use Rattle.std.specs.Prelude.{ℕ, ◌+◌}
-use Rattle.gw_profile.specs.Shapes.{Forest, nothing, segment, group}
 use Rattle.gw_validate.specs.Trees.{Tree, leaf, segments, groups, Trees, no_trees, trees}
 
 -- one tree behind another
@@ -12,9 +10,3 @@ append_tree (groups ts t) u = groups ts (append_tree t u)
 abbrev pub append_trees : Trees → Trees → Trees
 append_trees no_trees us = us
 append_trees (trees t ts) us = trees t (append_trees ts us)
-
--- how many nodes there are, by which a walk over them ends
-abbrev pub extent : Forest → ℕ
-extent nothing = 0
-extent (segment s rest) = 1 + extent rest
-extent (group g nodes rest) = 1 + extent nodes + extent rest

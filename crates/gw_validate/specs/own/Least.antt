@@ -1,12 +1,11 @@
 -- The least breach of a segment, and how a search comes to it.
-use Rattle.std.specs.Prelude.{◌≡◌, ℕ, ◌<◌, ◌≤◌, ◌⊎◌, Bool, false, nat_eq, List, [], ◌∷◌, Option, Some, None, option_map}
+use Rattle.std.specs.Prelude.{◌≡◌, ℕ, ◌<◌, ◌⊎◌, Bool, false, nat_eq, List, [], ◌∷◌, Option, Some, None, option_map}
 use Rattle.std.specs.List.{AllByRecursion}
 use Rattle.gw_er7.specs.Message.{Texts, text_of, SegmentValue}
-use Rattle.gw_er7.specs.Presence.{RepAt}
 use Rattle.gw_profile.specs.Shapes.{SubValue, CompValue, FieldValue, ProfileValue, Forest, nothing, segment, group}
 use Rattle.gw_validate.specs.declared.fields.Spot.{Spot}
 use Rattle.gw_validate.specs.Kinds.{number_of}
-use Rattle.gw_validate.specs.Breaches.{NotAfter, SubBreach, InAny, CompBreach, RepBreach, SegmentBreach, Counted}
+use Rattle.gw_validate.specs.Breaches.{NotAfter, SubBreach, InAny, CompBreach, SegmentBreach}
 use Rattle.gw_validate.specs.Conforming.{segment_at}
 
 -- the least of the breaches, or none
@@ -30,18 +29,9 @@ pub record ShapeRises (fields : List FieldValue) : Type 0 where
   pub rises : Rises (λ f. f.number) 0 fields
   pub each : AllByRecursion FieldRises fields
 
--- what a spot says at each level
-abbrev pub comp_key : Spot → List ℕ
-comp_key s = s.sub ∷ number_of s.kind ∷ []
-
-abbrev pub rep_key : Spot → List ℕ
-rep_key s = s.comp ∷ comp_key s
-
-abbrev pub field_key : Spot → List ℕ
-field_key s = s.rep ∷ rep_key s
-
+-- what a spot says
 abbrev pub segment_key : Spot → List ℕ
-segment_key s = s.field ∷ field_key s
+segment_key s = s.field ∷ s.rep ∷ s.comp ∷ s.sub ∷ number_of s.kind ∷ []
 
 abbrev pub is_full : Option ℕ → ℕ → Bool
 is_full None count = false
@@ -52,21 +42,6 @@ SubsBreach profile m f r c subs spot = InAny (λ s. s.number) (λ s. SubBreach p
 
 abbrev pub CompsBreach : ProfileValue → Texts → ℕ → ℕ → List CompValue → List ℕ → Type 0
 CompsBreach profile m f r comps spot = InAny (λ c. c.number) (CompBreach profile m f r) comps spot
-
--- no breach at the first of the shapes
-abbrev pub NoneYet : {A : Type 0} → (A → List ℕ → Type 0) → List A → Type 0
-NoneYet B [] = Unit {0}
-NoneYet B (x ∷ xs) = ((q : List ℕ) → B x q → ⊥) × NoneYet B xs
-
--- no breach in a repetition up to this number
-abbrev pub NoneUpTo : ProfileValue → Texts → FieldValue → ℕ → Type 0
-NoneUpTo profile m shape n = (r : ℕ) (q : List ℕ) → r ≤ n → RepAt m shape.number r → RepBreach profile m shape r q → ⊥
-
--- where a walk over the repetitions stands
-pub record RepsGoing (profile : ProfileValue) (m : Texts) (shape : FieldValue) (n count : ℕ) : Type 0 where
-  pub counted : Counted (RepAt m shape.number) n count
-  pub small : count ≤ n
-  pub none : NoneUpTo profile m shape n
 
 -- the first of the pairs that has a breach, with its least one, or none where no pair has any
 abbrev pub Searched : (List FieldValue → ℕ → List ℕ → Type 0) → List (ℕ × List FieldValue) → Option (ℕ × List ℕ) → Type 0
