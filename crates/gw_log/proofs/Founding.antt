@@ -3,72 +3,16 @@ use Rattle.std.proofs.Common.{◌≡◌, ◌≢◌, inl, inr, ⊎_elim, ℕ, ◌
 use Rattle.std.specs.Prelude.{Vec, false}
 use Rattle.std.specs.declared.alloc.Global.{Global}
 use Rattle.std.proofs.lemmas.Bool.{cases_eq, cases_lt}
-use Rattle.gw_log.specs.Disk.{Files, Elapses, LeavesOnly, Only, AreEnds, Changes}
+use Rattle.gw_log.specs.Disk.{Files, Only, AreEnds, Changes}
 use Rattle.gw_log.specs.File.{body, blocks, Has, HasRecordAt}
 use Rattle.gw_log.specs.State.{records_of, SegmentState, IsStaged}
-use Rattle.gw_log.specs.Chain.{Head, spelled, IsWide, AreSome, IsEnded, ended, AreBefore, none, more, IsUnborn, Origin, IsLast, IsLog, LogState, Holds}
-use Rattle.gw_log.specs.Opening.{BeginsAs, IsPlaced, AreLinked, IsSealed}
-use Rattle.gw_log.specs.own.Opens.{Reads, IsTrimmed, IsFound, IsTop}
+use Rattle.gw_log.specs.Chain.{Head, spelled, AreSome, IsEnded, ended, AreBefore, none, more, IsUnborn, Origin, IsLast, IsLog, LogState, Holds}
+use Rattle.gw_log.specs.Opening.{BeginsAs, IsSealed}
+use Rattle.gw_log.specs.own.Opens.{Reads, IsTrimmed, IsFound, IsLastOf, IsTop}
 use Rattle.gw_log.specs.own.Steps.{UpTo}
-use Rattle.gw_log.proofs.Moments.{weaker, joined, stepped}
 use Rattle.gw_log.proofs.Ways.{first_same, one_way}
 use Rattle.gw_log.proofs.Logs.{before_le, before_same, no_file}
 use Rattle.gw_log.proofs.Placing.{same_numbers, some_there, has_ended, listless}
-
-module _ {D : Type 0} (seen : D → Files) (may_leave : D → Files → Type 0) (moment : D → ℕ) (left_since : D → ℕ → Files → Type 0) (honest : D → Type 0) where
-  pub one_read : (old new : D) → ((disk : D) (c : Files) → left_since disk (moment disk) c → may_leave disk c) → seen new ≡ seen old
-      → ((c : Files) → may_leave new c → may_leave old c) → Elapses moment left_since may_leave old new → (honest new → honest old)
-      → Reads seen may_leave moment left_since honest old new
-  one_read old new only same crash time back = record {
-    same = same;
-    crash = crash;
-    moments = stepped moment left_since may_leave old new (may_leave old) only time (λ c may. may) crash;
-    back = back;
-  }
-
-  pub read_on : (old mid new : D) → Reads seen may_leave moment left_since honest old mid → Reads seen may_leave moment left_since honest mid new
-      → Reads seen may_leave moment left_since honest old new
-  read_on old mid new first second = record {
-    same = second.same ∙ first.same;
-    crash = λ c may. first.crash c (second.crash c may);
-    moments = joined moment left_since old mid new (may_leave old) first.moments
-        (weaker moment left_since mid new (may_leave mid) (may_leave old) first.crash second.moments);
-    back = λ h. first.back (second.back h);
-  }
-
--- ---- heads
-
-pub begins_as : (id number : ℕ) (h : Head) (bytes file : List ℕ) → HasRecordAt 0 bytes file → bytes ≡ spelled h → IsWide h → h.number ≡ number → h.id ≡ id
-    → BeginsAs id number h.first h.before h.oldest file
-begins_as id number h bytes file here is wide its_number its_id = record {
-  head = h;
-  wide = wide;
-  here = subst (λ b. HasRecordAt 0 b file) is here;
-  its_id = its_id;
-  its_number = its_number;
-  its_first = refl;
-  its_before = refl;
-  its_oldest = refl;
-}
-
-pub linked_one : (id n first before oldest : ℕ) (files : Files) → BeginsAs id n first before oldest (files n) → AreLinked id files n n
-linked_one id n first before oldest files begins = record {
-  before = before;
-  start = record { first = first; oldest = oldest; begins = begins };
-  next = λ m le lt. absurd (omega (arith, le, lt));
-}
-
-pub linked_more : (id start n first before oldest size : ℕ) (files : Files) → AreLinked id files start n → size ≡ length (files n) → before ≡ size
-    → BeginsAs id (n + 1) first before oldest (files (n + 1)) → AreLinked id files start (n + 1)
-linked_more id start n first before oldest size files linked is same begins = record {
-  before = linked.before;
-  start = linked.start;
-  next = λ m le lt. elim (cases_eq m n) [
-    | inl here ↦ subst (λ k. IsPlaced id (k + 1) (length (files k)) (files (k + 1))) (sym here)
-        (record { first = first; oldest = oldest; begins = subst (λ b. BeginsAs id (n + 1) first b oldest (files (n + 1))) (same ∙ is) begins })
-    | inr differs ↦ linked.next m le (omega (arith, lt, differs))
-  ];
-}
 
 -- ---- the last file
 
@@ -79,7 +23,7 @@ not_sealed records (r ∷ front) some is = not_sealed (front ++ [] ∷ []) front
 spelled_some : (h : Head) → spelled h ≢ []
 spelled_some h is = omega (arith, ap length is)
 
-last_open : (h : Head) (these records : List (List ℕ)) (file : List ℕ) → IsLast h these file → Has records file → IsSealed records → ⊥
+pub last_open : (h : Head) (these records : List (List ℕ)) (file : List ℕ) → IsLast h these file → Has records file → IsSealed records → ⊥
 last_open h these records file last has sealed =
     not_sealed (spelled h ∷ these) sealed.front (spelled_some h, last.some) (one_way file (spelled h ∷ these) records last.has has ∙ sealed.is)
 
@@ -99,7 +43,7 @@ module _ (id : ℕ) (files : Files) (from : Origin) (records : List (List ℕ)) 
   from_le : from.number ≤ log.head.number
   from_le = before_le id files log.head from.number from.first from.before log.front log.ended
 
-  last_within : (first ≤ log.head.number) × (log.head.number ≤ top)
+  pub last_within : (first ≤ log.head.number) × (log.head.number ≤ top)
   last_within = ends.within log.head.number (some_there id files from records log log.head.number from_le (omega arith))
 
   first_within : (first ≤ from.number) × (from.number ≤ top)
@@ -111,7 +55,7 @@ module _ (id : ℕ) (files : Files) (from : Origin) (records : List (List ℕ)) 
     | inr ge ↦ omega (arith, ge, first_within.0)
   ]
 
-  top_near : top ≤ log.head.number + 1
+  pub top_near : top ≤ log.head.number + 1
   top_near = elim (cases_lt (log.head.number + 1) top) [
     | inl lt ↦ absurd (ends.high (omega (arith, first_within.0, first_within.1)) (log.none_above top lt))
     | inr ge ↦ omega (arith, ge)
@@ -166,7 +110,7 @@ module _ (id : ℕ) (files : Files) (from : Origin) (records : List (List ℕ)) 
       record {
         its_number = is;
         its_first = sym numbers.1 ∙ begins.its_first;
-        its_oldest = sym numbers.2 ∙ begins.its_oldest;
+        its_oldest = sym numbers.3 ∙ begins.its_oldest;
         its_least = least_is;
       }
 
@@ -239,9 +183,6 @@ up_same f g n end rows is up = subst (λ (h : Files). UpTo (h n) end rows) is up
 
 pub begins_same : (id n a b o : ℕ) (f g : Files) → f ≡ g → BeginsAs id n a b o (f n) → BeginsAs id n a b o (g n)
 begins_same id n a b o f g is begins = subst (λ (h : Files). BeginsAs id n a b o (h n)) is begins
-
-abbrev IsLastOf : (first top n : ℕ) → Files → Type 0
-IsLastOf first top n files = (id : ℕ) (from : Origin) (records : List (List ℕ)) (log : IsLog id files from records) → AreEnds first top files → log.head.number ≡ n
 
 pub last_same : (first top n : ℕ) (f g : Files) → f ≡ g → IsLastOf first top n f → IsLastOf first top n g
 last_same first top n f g is last = subst (IsLastOf first top n) is last

@@ -10,3 +10,4 @@ pub mod Turning
 pub mod Placing
 pub mod Retiring
 pub mod Founding
+pub mod Denying

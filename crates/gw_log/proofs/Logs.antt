@@ -1,9 +1,8 @@
 -- What the steps of a call make of a log.
 use Rattle.std.proofs.Common.{◌≡◌, ◌≢◌, inl, inr, ℕ, zero, suc, ◌+◌, ◌<◌, ◌≤◌, List, [], ◌∷◌, ◌++◌, length, refl, sym, ◌∙◌, ap, subst, arith, append_assoc, length-append}
-use Rattle.std.proofs.Common.{get_or, take}
+use Rattle.std.proofs.Common.{get_or}
 use Rattle.std.specs.Prelude.{Vec}
 use Rattle.std.specs.declared.alloc.Global.{Global}
-use Rattle.std.proofs.lemmas.List.{take_more, map-append}
 use Rattle.gw_log.specs.Disk.{Files, Changes}
 use Rattle.gw_log.specs.File.{Has, HasEither, HasOrIs}
 use Rattle.std.proofs.Common.{drop}
@@ -135,15 +134,6 @@ module _ {D : Type 0} (seen : D → Files) (may_leave : D → Files → Type 0) 
       counted = omega (arith, h.count, length-append h.these pending)
 
 -- ---- records in memory
-
-pub some_more : (xs : List (Vec ℕ Global)) (i : ℕ) (v : Vec ℕ Global) → i < length xs → v ≡ get_or xs i v → v.items ≢ [] → AreSome (records_of (take i xs))
-    → AreSome (records_of (take (i + 1) xs))
-some_more xs i v lt at some so =
-    let rs = records_of (take i xs) in
-    let all : records_of (take (i + 1) xs) ≡ rs ++ v.items ∷ [] =
-    ap records_of (take_more xs i v lt) ∙ map-append (λ (w : Vec ℕ Global). w.items) (take i xs) (get_or xs i v ∷ [])
-    ∙ ap (λ (w : Vec ℕ Global). rs ++ w.items ∷ []) (sym at) in
-    subst AreSome (sym all) (some-append rs (v.items ∷ []) so (some, tt))
 
 pub some_at : (xs : List (Vec ℕ Global)) (i : ℕ) (v : Vec ℕ Global) → i < length xs → AreSome (records_of xs) → (get_or xs i v).items ≢ []
 some_at [] i v lt some = absurd (omega (arith, lt))

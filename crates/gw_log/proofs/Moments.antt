@@ -1,7 +1,7 @@
 -- How a run of calls of a disk goes on.
-use Rattle.std.proofs.Common.{◌≡◌, ◌≢◌, inl, inr, ⊎_elim, ℕ, List, refl, sym, ◌∙◌, subst, arith}
+use Rattle.std.proofs.Common.{◌≡◌, ◌≢◌, inl, inr, ⊎_elim, ℕ, sym, ◌∙◌, subst, arith}
 use Rattle.std.proofs.lemmas.Bool.{cases_eq}
-use Rattle.gw_log.specs.Disk.{Files, After, Only, Elapses, LeavesOnly, Torn}
+use Rattle.gw_log.specs.Disk.{Files, Only, Elapses, LeavesOnly}
 
 module _ {D : Type 0} (moment : D → ℕ) (left_since : D → ℕ → Files → Type 0) where
   -- what has P has Q
@@ -33,14 +33,6 @@ module _ {D : Type 0} (moment : D → ℕ) (left_since : D → ℕ → Files →
   }
 
 -- ---- what one step on a file leaves
-
-pub not_written : (at n : ℕ) (file : List ℕ) → Torn at n file file
-not_written at n file = record { before = refl; after = refl; no_shorter = omega arith; no_longer = omega arith }
-
--- a step that may not have happened leaves what could be left before
-pub none_done : (number : ℕ) (step : List ℕ → List ℕ → Type 0) (outcomes : Files → Type 0) → ((file : List ℕ) → step file file) → (c : Files) → outcomes c
-    → After number step outcomes c
-none_done number step outcomes same c could = record { was = c; could = could; moves = record { here = same (c number); others = λ m differs. refl } }
 
 -- where the others stay and this one is on the disk, nothing is in motion
 pub only_of : (number : ℕ) (old now : Files) (outcomes : Files → Type 0) → ((c : Files) → outcomes c → (m : ℕ) → m ≢ number → c m ≡ old m)

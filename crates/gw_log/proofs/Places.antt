@@ -68,9 +68,6 @@ none_long at n file front block size found is sizes some cut nothing none =
     (λ r more short begins. let same = one_size n (length (1 ∷ body r)) (sym some ∙ sized_at at file front size is sizes r more short begins) in omega (arith, same))
     (subst (λ o. IfNone o (HasNoRecord block)) nothing none)
 
-pub none_front : (front : List ℕ) (found : Option (Vec ℕ Global)) → found ≡ None → IfNone found (HasNoRecord front) → HasNoRecord front
-none_front front found nothing none = subst (λ o. IfNone o (HasNoRecord front)) nothing none
-
 -- one record more was read
 pub read_next : (file : List ℕ) (before : List (List ℕ)) (r : List ℕ) (at : ℕ) → file ≡ blocks before ++ drop at file → at ≡ length (blocks before)
     → HasRecordAt at r file

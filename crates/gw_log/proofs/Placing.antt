@@ -22,15 +22,18 @@ first_same : (a b : List ℕ) (xs ys : List (List ℕ)) → a ∷ xs ≡ b ∷ y
 first_same a b xs ys same = cc (same)
 
 -- and so is each of its numbers
-pub same_numbers : (g h : Head) → IsWide g → IsWide h → spelled g ≡ spelled h → (g.number ≡ h.number) × (g.first ≡ h.first) × (g.oldest ≡ h.oldest)
+pub same_numbers : (g h : Head) → IsWide g → IsWide h → spelled g ≡ spelled h → (g.number ≡ h.number) × (g.first ≡ h.first) × (g.before ≡ h.before) × (g.oldest ≡ h.oldest) × (g.id ≡ h.id)
 same_numbers g h wide fits same =
     let s1 = split g.number h.number _ _ same in
     let s2 = split g.first h.first _ _ s1.1 in
     let s3 = split g.before h.before _ _ s2.1 in
-    let s4 = split g.oldest h.oldest _ _ s3.1 in (
+    let s4 = split g.oldest h.oldest _ _ s3.1 in
+    let s5 = split g.id h.id _ _ s4.1 in (
       one_number g.number h.number wide.its_number fits.its_number s1.0,
       one_number g.first h.first wide.its_first fits.its_first s2.0,
+      one_number g.before h.before wide.its_before fits.its_before s3.0,
       one_number g.oldest h.oldest wide.its_oldest fits.its_oldest s4.0,
+      one_number g.id h.id wide.its_id fits.its_id s5.0,
     )
 
 pub one_headed : (id other n m b c : ℕ) (file : List ℕ) → HasHead id n b file → HasHead other m c file → (id ≡ other) × (n ≡ m) × (b ≡ c)

@@ -1,8 +1,8 @@
 -- A log over the files of a folder: each says of which log it is, its number, how many records stand before it, and how long its predecessor is.
-use Rattle.std.specs.Prelude.{◌≡◌, ◌≢◌, ◌⊎◌, ℕ, ◌+◌, ◌<◌, ◌≤◌, ◌^◌, List, [], ◌∷◌, ◌++◌, length}
+use Rattle.std.specs.Prelude.{◌≡◌, ◌≢◌, ◌⊎◌, ℕ, ◌+◌, ◌<◌, ◌≤◌, ◌^◌, Bool, IsTrue, List, [], ◌∷◌, ◌++◌, length, Result, IfOk, OnOk}
 use Rattle.std.specs.Int.{w64, to_be_bytes}
 use Rattle.std.specs.List.{AllByRecursion}
-use Rattle.gw_log.specs.Disk.{Files}
+use Rattle.gw_log.specs.Disk.{Files, LeavesOnly}
 use Rattle.gw_log.specs.File.{blocks, AreShort, Has}
 use Rattle.gw_log.specs.State.{SegmentState, Stands}
 
@@ -92,6 +92,10 @@ pub record IsLog (id : ℕ) (files : Files) (from : Origin) (records : List (Lis
   pub unborn : IsUnborn (files (head.number + 1))
   pub none_above : (number : ℕ) → head.number + 1 < number → files number ≡ []
 
+-- the files of a folder are no log of this number
+abbrev pub IsNoLog : ℕ → Files → Type 0
+IsNoLog id files = (from : Origin) (records : List (List ℕ)) → IsLog id files from records → ⊥
+
 -- A log that is open: the segment over its last file, the log's number, how many records stand before that file and in it,
 -- below which number files may be gone, and the least number of one that is there
 pub record LogState (D : Type 0) : Type 0 where
@@ -125,6 +129,28 @@ pub record Holds {D : Type 0} (seen : D → Files) (may_leave : D → Files → 
 -- a log of these records or of those
 abbrev pub IsEither : ℕ → Origin → List (List ℕ) → List (List ℕ) → Files → Type 0
 IsEither id from these those files = IsLog id files from these ⊎ IsLog id files from those
+
+-- what the folder is a log of, the log holds
+abbrev pub HoldsAll : {D : Type 0} → (D → Files) → (D → Files → Type 0) → ℕ → D → LogState D → Type 0
+HoldsAll seen may_leave id disk s =
+    (from : Origin) (records : List (List ℕ)) → IsLog id (seen disk) from records → Holds seen may_leave s from records []
+
+-- a crash at any moment since then leaves a log of the same records
+abbrev pub LeavesLog : {D : Type 0} → (D → Files) → (D → ℕ) → (D → ℕ → Files → Type 0) → ℕ → D → D → Type 0
+LeavesLog seen moment left_since id old new =
+    (from : Origin) (records : List (List ℕ)) → IsLog id (seen old) from records → LeavesOnly moment left_since old new (λ c. IsLog id c from records)
+
+-- at `Ok` all that was pending counts, whatever crash comes, and these are pending
+abbrev pub Commits : {D T E : Type 0} → (D → Files) → (D → Files → Type 0) → LogState D → LogState D → List (List ℕ) → Result T E → Type 0
+Commits seen may_leave old new pending result =
+    (from : Origin) (these those : List (List ℕ)) → Holds seen may_leave old from these those
+    → OnOk result (Holds seen may_leave new from (these ++ those) pending)
+
+-- a crash at any moment since then leaves a log of what counted, or of that with all that was pending
+abbrev pub LeavesCounted : {D : Type 0} → (D → Files) → (D → Files → Type 0) → (D → ℕ) → (D → ℕ → Files → Type 0) → LogState D → LogState D → Type 0
+LeavesCounted seen may_leave moment left_since old new =
+    (from : Origin) (these those : List (List ℕ)) → Holds seen may_leave old from these those
+    → LeavesOnly moment left_since old.segment.disk new.segment.disk (IsEither old.id from these (these ++ those))
 
 -- the head of a log's first file, and where a log begins that is new
 abbrev pub first_head : ℕ → List ℕ → Head
@@ -167,3 +193,15 @@ pub record IsShortened (id : ℕ) (from : Origin) (records : List (List ℕ)) (f
 -- a log of these records, or of those that are left
 abbrev pub IsLogOrFewer : ℕ → Origin → List (List ℕ) → Files → Type 0
 IsLogOrFewer id from records files = IsLog id files from records ⊎ IsShortened id from records files
+
+-- where the answer is true, the records of the first file are gone, and the others are held, with those that are pending
+abbrev pub Retires : {D E : Type 0} → (D → Files) → (D → Files → Type 0) → LogState D → LogState D → Result Bool E → Type 0
+Retires seen may_leave old new result =
+    (from : Origin) (these those : List (List ℕ)) → Holds seen may_leave old from these those
+    → IfOk result (λ done. IsTrue done → HasRetired seen may_leave new from these those)
+
+-- a crash at any moment since then leaves the log as it was, or without the records of the first file
+abbrev pub LeavesFewer : {D : Type 0} → (D → Files) → (D → Files → Type 0) → (D → ℕ) → (D → ℕ → Files → Type 0) → LogState D → LogState D → Type 0
+LeavesFewer seen may_leave moment left_since old new =
+    (from : Origin) (these those : List (List ℕ)) → Holds seen may_leave old from these those
+    → LeavesOnly moment left_since old.segment.disk new.segment.disk (IsLogOrFewer old.id from these)

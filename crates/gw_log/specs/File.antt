@@ -3,6 +3,7 @@ use Rattle.std.specs.Prelude.{◌≡◌, ◌≢◌, ◌⊎◌, ⊤, ℕ, ◌<◌
 use Rattle.std.specs.Int.{w32, to_be_bytes}
 use Rattle.std.specs.List.{AllByRecursion}
 use Rattle.sha2.specs.Sha256.{sha256}
+use Rattle.gw_log.specs.Disk.{Files, Changes}
 
 -- a record behind its digest (SHA-256, FIPS 180-4)
 abbrev pub item : List ℕ → List ℕ
@@ -66,6 +67,6 @@ HasOrIs these all c = Has these c ⊎ (c ≡ blocks all ++ 0 ∷ [])
 abbrev pub HasAs : List ℕ → List ℕ → Type 0
 HasAs file c = (records : List (List ℕ)) → Has records file → Has records c
 
--- each crash leaves a file that has these records
-abbrev pub AllHave : List (List ℕ) → (List ℕ → Type 0) → Type 0
-AllHave records outcomes = (c : List ℕ) → outcomes c → Has records c
+-- the file of this number has what it had, and the others are as they were
+abbrev pub KeepsRecords : ℕ → Files → Files → Type 0
+KeepsRecords number files = Changes number (HasAs (files number)) files

@@ -1,8 +1,8 @@
 -- What the files of a folder say of each other, which is looked at when a log is opened.
 use Rattle.std.specs.Prelude.{◌≡◌, ℕ, ◌+◌, ◌<◌, ◌≤◌, List, [], ◌∷◌, ◌++◌, length}
 use Rattle.gw_log.specs.Disk.{Files}
-use Rattle.gw_log.specs.File.{Has, HasRecordAt}
-use Rattle.gw_log.specs.Chain.{Head, spelled, IsWide}
+use Rattle.gw_log.specs.File.{HasRecordAt}
+use Rattle.gw_log.specs.Chain.{Head, spelled, IsWide, LogState}
 
 -- the file begins with a head of this log and number, which says these
 pub record BeginsAs (id number first before oldest : ℕ) (file : List ℕ) : Type 0 where
@@ -14,6 +14,10 @@ pub record BeginsAs (id number first before oldest : ℕ) (file : List ℕ) : Ty
   pub its_first : head.first ≡ first
   pub its_before : head.before ≡ before
   pub its_oldest : head.oldest ≡ oldest
+
+-- the last file of a log begins with the head that its state tells
+abbrev pub HasItsHead : {D : Type 0} → (D → Files) → ℕ → D → LogState D → Type 0
+HasItsHead seen id disk s = (before : ℕ) × BeginsAs id s.segment.number s.first before s.oldest (seen disk s.segment.number)
 
 -- it begins with one that follows on a file of this length
 pub record IsPlaced (id number before : ℕ) (file : List ℕ) : Type 0 where

@@ -1,7 +1,7 @@
 -- What a segment of a log is while it is open.
-use Rattle.std.specs.Prelude.{◌≡◌, ℕ, Bool, false, ◌+◌, ◌<◌, ◌^◌, List, [], ◌∷◌, ◌++◌, length, drop, map, Vec}
+use Rattle.std.specs.Prelude.{◌≡◌, ℕ, Bool, false, ◌+◌, ◌<◌, ◌^◌, List, [], ◌∷◌, ◌++◌, length, drop, map, Vec, Result, OnOk}
 use Rattle.std.specs.declared.alloc.Global.{Global}
-use Rattle.gw_log.specs.Disk.{Files, Only}
+use Rattle.gw_log.specs.Disk.{Files, Changes, Only, LeavesOnly}
 use Rattle.gw_log.specs.File.{blocks, AreShort}
 
 -- the records, and then a closed gate
@@ -35,6 +35,18 @@ pub record IsStaged {D : Type 0} (seen : D → Files) (may_leave : D → Files �
 pub record Stands {D : Type 0} (seen : D → Files) (may_leave : D → Files → Type 0) (s : SegmentState D) (records pending : List (List ℕ)) : Type 0 where
   pub unbroken : s.broken ≡ false
   pub staged : IsStaged seen may_leave s.disk s.number s.end s.reach records pending
+
+-- at `Ok` all that was pending counts, whatever crash comes, and these are pending
+abbrev pub Secures : {D T E : Type 0} → (D → Files) → (D → Files → Type 0) → SegmentState D → SegmentState D → List (List ℕ) → Result T E → Type 0
+Secures seen may_leave old new pending result =
+    (these those : List (List ℕ)) → Stands seen may_leave old these those → OnOk result (Stands seen may_leave new (these ++ those) pending)
+
+-- a crash at any moment since then leaves a file that is as P says, by what counted and by that with all that was pending
+abbrev pub LeavesFile : {D : Type 0} → (D → Files) → (D → Files → Type 0) → (D → ℕ) → (D → ℕ → Files → Type 0)
+    → (List (List ℕ) → List (List ℕ) → List ℕ → Type 0) → SegmentState D → SegmentState D → Type 0
+LeavesFile seen may_leave moment left_since P old new =
+    (these those : List (List ℕ)) → Stands seen may_leave old these those
+    → LeavesOnly moment left_since old.disk new.disk (Changes old.number (P these (these ++ those)) (seen old.disk))
 
 -- the disk of a reader, the number of its file, where it stands, and up to where it reads
 pub record ReaderState (D : Type 0) : Type 0 where

@@ -1,5 +1,5 @@
 //! A folder of numbered files as a log sees it: what a read returns, and what a crash may leave.
-ghost use Rattle.std.specs.Prelude.{◌≡◌, ◌≤◌, [], List, ℕ, length, take, drop, IfOk, OnOk};
+ghost use Rattle.std.specs.Prelude.{◌≡◌, [], ℕ, length, take, drop, IfOk, OnOk};
 ghost use Rattle.gw_log.specs.declared.disk.DiskFault.TheVariants.{Memory};
 ghost use Rattle.gw_log.specs.Disk.{Files, Changes, IsWritten, Torn, Cut, IsGone, Follows, Elapses, AreEnds, HasCause};
 

@@ -1,7 +1,7 @@
 //! A log over the files of a folder.
-ghost use Rattle.std.specs.Prelude.{◌≡◌, ◌⊎◌, ◌++◌, ◌<◌, ◌≤◌, ◌^◌, ◌∷◌, [], true, List, ℕ, IsTrue, IsFalse, IsErrOf, IfOk, OnOk, OnErr};
-ghost use Rattle.gw_log.specs.Chain.{AreSome, IsWide, Origin, IsEither, Holds, spelled, first_head};
-ghost use Rattle.gw_log.specs.Disk.{Only, LeavesOnly};
+ghost use Rattle.std.specs.Prelude.{◌≡◌, ◌<◌, ◌≤◌, ◌^◌, ◌∷◌, [], ℕ, IsTrue, IsFalse, IsErrOf, IfOk, OnOk};
+ghost use Rattle.gw_log.specs.Chain.{AreSome, IsWide, spelled, first_head};
+ghost use Rattle.gw_log.specs.Disk.{Only};
 ghost use Rattle.gw_log.specs.State.{records_of};
 
 use crate::disk::Disk;
@@ -99,12 +99,12 @@ fn head_alone<D: Disk>(
 }
 
 impl<D: Disk> Log<D> {
-    ghost use Rattle.std.specs.Prelude.{◌≡◌, ◌⊎◌, ◌++◌, ◌+◌, ◌-◌, ◌<◌, ◌≤◌, ◌^◌, min, [], true, List, ℕ, IsTrue, IsFalse, IsErrOf, IfOk, IfErr, OnOk, OnErr};
-    ghost use Rattle.gw_log.specs.Chain.{AreSome, Origin, IsLog, IsEither, IsLogOrFewer, Holds, HasRetired, beginning};
+    ghost use Rattle.std.specs.Prelude.{◌≡◌, ◌⊎◌, ◌+◌, ◌-◌, ◌<◌, ◌≤◌, ◌^◌, min, [], true, ℕ, IsFalse, IsErrOf, IfOk, IfErr, OnOk, OnErr};
+    ghost use Rattle.gw_log.specs.Chain.{AreSome, Holds, HoldsAll, IsNoLog, LeavesLog, Commits, LeavesCounted, Retires, LeavesFewer, beginning};
     ghost use Rattle.gw_log.specs.own.Turns.{IsNext};
     ghost use Rattle.gw_log.specs.File.{Has};
-    ghost use Rattle.gw_log.specs.Opening.{BeginsAs, AreLinked, IsSealed};
-    ghost use Rattle.gw_log.specs.Disk.{Only, LeavesOnly};
+    ghost use Rattle.gw_log.specs.Opening.{HasItsHead, AreLinked, IsSealed};
+    ghost use Rattle.gw_log.specs.Disk.{Only};
     ghost use Rattle.gw_log.specs.State.{records_of};
 
     /// A new log of this number, in a folder without a file. Its first head has this checkpoint. After a fault the folder has to be cleared.
@@ -147,28 +147,28 @@ impl<D: Disk> Log<D> {
         // After a restart, what is read is what is on the disk.
         requires { Only (D.seen disk) (D.may_leave disk) }
         // What the folder is a log of, the log holds.
-        ensures ok { IfOk result (λ r. D.honest r.0.segment.disk → (from : Origin) (records : List (List ℕ)) →
-            IsLog id (D.seen disk) from records → Holds D.seen D.may_leave r.0 from records []) }
+        ensures ok { IfOk result (λ r.
+            D.honest r.0.segment.disk → HoldsAll D.seen D.may_leave id disk r.0) }
         ensures id { IfOk result (λ r. r.0.id ≡ id) }
         ensures last { IfOk result (λ r. D.honest r.0.segment.disk →
             Has (records_of r.1.items) (D.seen disk r.0.segment.number)) }
         // No file is missing, cut, exchanged or another log's, and the last one isn't ended.
         ensures linked { IfOk result (λ r. D.honest r.0.segment.disk →
             AreLinked id (D.seen disk) r.0.least r.0.segment.number) }
-        ensures head { IfOk result (λ r. D.honest r.0.segment.disk → (before : ℕ) ×
-            BeginsAs id r.0.segment.number r.0.first before r.0.oldest (D.seen disk r.0.segment.number)) }
+        ensures head { IfOk result (λ r. D.honest r.0.segment.disk → HasItsHead D.seen id disk r.0) }
         ensures there { IfOk result (λ r. r.0.least ≤ r.0.oldest) }
         ensures behind { IfOk result (λ r. D.honest r.0.segment.disk → (n : ℕ) →
             r.0.segment.number + 1 < n → D.seen disk n ≡ []) }
         ensures unsealed { IfOk result (λ r. IsSealed (records_of r.1.items) → ⊥) }
 
         // A crash at any moment leaves a log of the same records.
-        ensures any_moment { IfOk result (λ r. D.honest r.0.segment.disk → (from : Origin) (records : List (List ℕ)) →
-            IsLog id (D.seen disk) from records →
-            LeavesOnly D.moment D.left_since disk r.0.segment.disk (λ c. IsLog id c from records)) }
-        ensures any_moment_err { IfErr result (λ e. D.honest e.1 → (from : Origin) (records : List (List ℕ)) →
-            IsLog id (D.seen disk) from records →
-            LeavesOnly D.moment D.left_since disk e.1 (λ c. IsLog id c from records)) }
+        ensures any_moment { IfOk result (λ r. D.honest r.0.segment.disk →
+            LeavesLog D.seen D.moment D.left_since id disk r.0.segment.disk) }
+        ensures any_moment_err { IfErr result (λ e. D.honest e.1 →
+            LeavesLog D.seen D.moment D.left_since id disk e.1) }
+        // A log isn't reported damaged.
+        ensures undamaged { IfErr result (λ e. D.honest e.1 → (segment at : ℕ) →
+            e.0 ≡ LogFault.Damaged segment at → IsNoLog id (D.seen disk)) }
         ensures untouched { IfErr result (λ e. (segment at : ℕ) →
             e.0 ≡ LogFault.Damaged segment at → Only (D.seen disk) (D.may_leave e.1)) }
         ensures missing { IfErr result (λ e. D.honest e.1 → e.0 ≡ LogFault.Missing → (n : ℕ) → D.seen disk n ≡ []) }
@@ -202,19 +202,14 @@ impl<D: Disk> Log<D> {
     /// Puts a batch behind the others, and brings it to the disk. It counts only once the next batch was put, or the log was settled.
     pub fn put(&mut self, batch: &[Vec<u8>]) -> Result<(), LogFault>
         // At `Ok` all that was pending counts, whatever crash comes, and the batch is pending.
-        ensures ok { (from : Origin) (these those : List (List ℕ)) →
-            Holds D.seen D.may_leave self.old from these those →
-            OnOk result (Holds D.seen D.may_leave self.new from (these ++ those) (records_of batch.now)) }
+        ensures ok { Commits D.seen D.may_leave self.old self.new (records_of batch.now) result }
         ensures err { OnErr result ((self.new ≡ self.old) ⊎ (self.new.segment.broken ≡ true)) }
         ensures full { IsErrOf result LogFault.Full →
             (2 ^ 62 ≤ self.old.count) ⊎ (2 ^ 60 ≤ self.old.segment.reach) }
         ensures empty { IsErrOf result LogFault.Empty → AreSome (records_of batch.now) → ⊥ }
 
         // A crash at any moment leaves a log of what counted, or of that with all that was pending.
-        ensures any_moment { (from : Origin) (these those : List (List ℕ)) →
-            Holds D.seen D.may_leave self.old from these those →
-            LeavesOnly D.moment D.left_since self.old.segment.disk self.new.segment.disk
-            (IsEither self.old.id from these (these ++ those)) }
+        ensures any_moment { LeavesCounted D.seen D.may_leave D.moment D.left_since self.old self.new }
         ensures back { D.honest self.new.segment.disk → D.honest self.old.segment.disk }
     {
         test_batch(self.count, batch)?;
@@ -225,14 +220,9 @@ impl<D: Disk> Log<D> {
 
     /// Brings all that is pending to the disk, so that it counts.
     pub fn settle(&mut self) -> Result<(), LogFault>
-        ensures ok { (from : Origin) (these those : List (List ℕ)) →
-            Holds D.seen D.may_leave self.old from these those →
-            OnOk result (Holds D.seen D.may_leave self.new from (these ++ those) []) }
+        ensures ok { Commits D.seen D.may_leave self.old self.new [] result }
         ensures err { OnErr result (self.new.segment.broken ≡ true) }
-        ensures any_moment { (from : Origin) (these those : List (List ℕ)) →
-            Holds D.seen D.may_leave self.old from these those →
-            LeavesOnly D.moment D.left_since self.old.segment.disk self.new.segment.disk
-            (IsEither self.old.id from these (these ++ those)) }
+        ensures any_moment { LeavesCounted D.seen D.may_leave D.moment D.left_since self.old self.new }
         ensures kept { self.new ≡ record self.old { segment = self.new.segment } }
         ensures back { D.honest self.new.segment.disk → D.honest self.old.segment.disk }
     {
@@ -263,13 +253,8 @@ impl<D: Disk> Log<D> {
     // Goes on to the next file.
     fn go_on(&mut self, oldest: u64, checkpoint: &[u8]) -> Result<(), LogFault>
         requires { self.old.oldest ≤ oldest }
-        ensures ok { (from : Origin) (these those : List (List ℕ)) →
-            Holds D.seen D.may_leave self.old from these those →
-            OnOk result (Holds D.seen D.may_leave self.new from (these ++ those) []) }
-        ensures any_moment { (from : Origin) (these those : List (List ℕ)) →
-            Holds D.seen D.may_leave self.old from these those →
-            LeavesOnly D.moment D.left_since self.old.segment.disk self.new.segment.disk
-            (IsEither self.old.id from these (these ++ those)) }
+        ensures ok { Commits D.seen D.may_leave self.old self.new [] result }
+        ensures any_moment { LeavesCounted D.seen D.may_leave D.moment D.left_since self.old self.new }
         ensures back { D.honest self.new.segment.disk → D.honest self.old.segment.disk }
     {
         self.settle()?;
@@ -284,14 +269,9 @@ impl<D: Disk> Log<D> {
 
     /// Ends the last file, once all that is pending counts, and begins the next one, whose head has this checkpoint and says below which number files may go.
     pub fn begin_next(&mut self, oldest: u64, checkpoint: &[u8]) -> Result<(), LogFault>
-        ensures ok { (from : Origin) (these those : List (List ℕ)) →
-            Holds D.seen D.may_leave self.old from these those →
-            OnOk result (Holds D.seen D.may_leave self.new from (these ++ those) []) }
+        ensures ok { Commits D.seen D.may_leave self.old self.new [] result }
         ensures err { OnErr result (self.new.segment.broken ≡ true) }
-        ensures any_moment { (from : Origin) (these those : List (List ℕ)) →
-            Holds D.seen D.may_leave self.old from these those →
-            LeavesOnly D.moment D.left_since self.old.segment.disk self.new.segment.disk
-            (IsEither self.old.id from these (these ++ those)) }
+        ensures any_moment { LeavesCounted D.seen D.may_leave D.moment D.left_since self.old self.new }
         ensures back { D.honest self.new.segment.disk → D.honest self.old.segment.disk }
     {
         match self.go_on(oldest.max(self.oldest), checkpoint) {
@@ -305,17 +285,12 @@ impl<D: Disk> Log<D> {
 
     /// Removes the first file, if it is one of those that may be gone. False: it isn't.
     pub fn retire(&mut self) -> Result<bool, LogFault>
-        ensures ok { (from : Origin) (these those : List (List ℕ)) →
-            Holds D.seen D.may_leave self.old from these those → IfOk result (λ done. IsTrue done →
-            HasRetired D.seen D.may_leave self.new from these those) }
+        ensures ok { Retires D.seen D.may_leave self.old self.new result }
         ensures none { IfOk result (λ done. IsFalse done → self.new ≡ self.old) }
         ensures err { OnErr result (self.new.segment.broken ≡ true) }
 
         // A crash leaves the log as it was, or without the records of the first file.
-        ensures any_moment { (from : Origin) (these those : List (List ℕ)) →
-            Holds D.seen D.may_leave self.old from these those →
-            LeavesOnly D.moment D.left_since self.old.segment.disk self.new.segment.disk
-            (IsLogOrFewer self.old.id from these) }
+        ensures any_moment { LeavesFewer D.seen D.may_leave D.moment D.left_since self.old self.new }
         ensures back { D.honest self.new.segment.disk → D.honest self.old.segment.disk }
     {
         if self.least >= self.oldest || self.least >= self.segment.number() {

@@ -1,11 +1,11 @@
 //! What is found in a folder when a log is opened, and what a crash left there that has to go.
-ghost use Rattle.std.specs.Prelude.{◌≡◌, ◌≢◌, ◌+◌, ◌<◌, ◌≤◌, [], List, ℕ, length, IfOk, OnOk, IsErrOf, IsTrue, IsFalse};
-ghost use Rattle.gw_log.specs.Chain.{Origin, IsLog};
-ghost use Rattle.gw_log.specs.Disk.{Files, Only, LeavesOnly, AreEnds};
-ghost use Rattle.gw_log.specs.File.{Has};
+ghost use Rattle.std.specs.Prelude.{◌≡◌, ◌≢◌, ◌+◌, ◌<◌, ◌≤◌, [], ℕ, IfOk, OnOk, IsErrOf, IsTrue, IsFalse};
+ghost use Rattle.gw_log.specs.Chain.{IsNoLog, LeavesLog};
+ghost use Rattle.gw_log.specs.Disk.{Only, LeavesOnly};
+ghost use Rattle.gw_log.specs.File.{Has, IsDamagedAt};
 ghost use Rattle.gw_log.specs.Opening.{BeginsAs, AreLinked, IsSealed};
 ghost use Rattle.gw_log.specs.State.{IsStaged, records_of};
-ghost use Rattle.gw_log.specs.own.Opens.{Reads, IsTrimmed, IsFound, IsTop};
+ghost use Rattle.gw_log.specs.own.Opens.{Reads, IsTrimmed, Finds, IsLastOf, IsTop, HasNoHead, IsNoLogOf, IsNoLogUpTo};
 ghost use Rattle.gw_log.specs.own.Steps.{UpTo};
 
 use crate::disk::{Disk, DiskFault};
@@ -43,6 +43,8 @@ fn read_file<D: Disk>(
 ) -> Result<(Vec<Vec<u8>>, usize), LogFault>
     ensures up { D.honest disk.new → IfOk result (λ r.
         UpTo (D.seen disk.old number) r.1 (records_of r.0.items)) }
+    ensures damaged { D.honest disk.new → (segment at : ℕ) → IsErrOf result (LogFault.Damaged segment at) →
+        IsDamagedAt at (D.seen disk.old number) }
     ensures reads { Reads D.seen D.may_leave D.moment D.left_since D.honest disk.old disk.new }
     ensures missing { IsErrOf result LogFault.Missing → ⊥ }
 {
@@ -66,6 +68,8 @@ fn is_sealed(records: &[Vec<u8>]) -> bool
 fn head_of<D: Disk>(alloc: Global, disk: &mut D, id: u64, number: u64) -> Result<Place, LogFault>
     ensures begins { D.honest disk.new → IfOk result (λ p.
         BeginsAs id number p.first p.before p.oldest (D.seen disk.old number)) }
+    ensures damaged { D.honest disk.new → (segment at : ℕ) → IsErrOf result (LogFault.Damaged segment at) →
+        HasNoHead id number (D.seen disk.old number) }
     ensures reads { Reads D.seen D.may_leave D.moment D.left_since D.honest disk.old disk.new }
     ensures missing { IsErrOf result LogFault.Missing → ⊥ }
 {
@@ -100,6 +104,8 @@ fn linked<D: Disk>(
         BeginsAs id last p.first p.before p.oldest (D.seen disk.old last)) }
     ensures linked { D.honest disk.new → OnOk result (AreLinked id (D.seen disk.old) first last) }
     ensures there { IfOk result (λ p. first ≤ p.oldest) }
+    ensures damaged { D.honest disk.new → (segment at : ℕ) → IsErrOf result (LogFault.Damaged segment at) →
+        IsNoLogOf id first last (D.seen disk.old) }
     ensures reads { Reads D.seen D.may_leave D.moment D.left_since D.honest disk.old disk.new }
     ensures missing { IsErrOf result LogFault.Missing → ⊥ }
 {
@@ -136,13 +142,13 @@ fn last_born<D: Disk>(
     requires { first ≤ top }
     ensures up { D.honest disk.new → IfOk result (λ r.
         UpTo (D.seen disk.old r.0) r.2 (records_of r.1.items)) }
-    ensures last { D.honest disk.new → IfOk result (λ r.
-        (id : ℕ) (from : Origin) (records : List (List ℕ)) (log : IsLog id (D.seen disk.old) from records) →
-        AreEnds first top (D.seen disk.old) → log.head.number ≡ r.0) }
+    ensures last { D.honest disk.new → IfOk result (λ r. IsLastOf first top r.0 (D.seen disk.old)) }
     ensures low { IfOk result (λ r. first ≤ r.0) }
     ensures near { IfOk result (λ r. r.0 ≤ top) }
     ensures next { IfOk result (λ r. top ≤ r.0 + 1) }
     ensures open { IfOk result (λ r. IsSealed (records_of r.1.items) → ⊥) }
+    ensures damaged { D.honest disk.new → (segment at : ℕ) → IsErrOf result (LogFault.Damaged segment at) →
+        IsNoLogUpTo first top (D.seen disk.old) }
     ensures reads { Reads D.seen D.may_leave D.moment D.left_since D.honest disk.old disk.new }
     ensures missing { IsErrOf result LogFault.Missing → ⊥ }
 {
@@ -167,8 +173,7 @@ fn find<D: Disk>(alloc: Global, disk: &mut D, id: u64) -> Result<Found, LogFault
     ensures up { D.honest disk.new → IfOk result (λ f.
         UpTo (D.seen disk.old f.number) f.end (records_of f.records.items)) }
     ensures found { D.honest disk.new → IfOk result (λ f.
-        (from : Origin) (records : List (List ℕ)) (log : IsLog id (D.seen disk.old) from records) →
-        IsFound id (D.seen disk.old) from records log f.number f.place.first f.place.oldest f.least) }
+        Finds id (D.seen disk.old) f.number f.place.first f.place.oldest f.least) }
     ensures linked { D.honest disk.new → IfOk result (λ f. AreLinked id (D.seen disk.old) f.least f.number) }
     ensures head { D.honest disk.new → IfOk result (λ f.
         BeginsAs id f.number f.place.first f.place.before f.place.oldest (D.seen disk.old f.number)) }
@@ -176,6 +181,8 @@ fn find<D: Disk>(alloc: Global, disk: &mut D, id: u64) -> Result<Found, LogFault
     ensures top { D.honest disk.new → IfOk result (λ f. IsTop (D.seen disk.old) f.number f.top) }
     ensures open { IfOk result (λ f. IsSealed (records_of f.records.items) → ⊥) }
     ensures missing { D.honest disk.new → IsErrOf result LogFault.Missing → (n : ℕ) → D.seen disk.old n ≡ [] }
+    ensures damaged { D.honest disk.new → (segment at : ℕ) → IsErrOf result (LogFault.Damaged segment at) →
+        IsNoLog id (D.seen disk.old) }
     ensures reads { Reads D.seen D.may_leave D.moment D.left_since D.honest disk.old disk.new }
 {
     let (least, top) = disk.ends()?;
@@ -219,8 +226,7 @@ pub(crate) fn open_folder<D: Disk>(alloc: Global, disk: &mut D, id: u64) -> Resu
     ensures staged { D.honest disk.new → IfOk result (λ f.
         IsStaged D.seen D.may_leave disk.new f.number f.end f.end (records_of f.records.items) []) }
     ensures found { D.honest disk.new → IfOk result (λ f.
-        (from : Origin) (records : List (List ℕ)) (log : IsLog id (D.seen disk.old) from records) →
-        IsFound id (D.seen disk.old) from records log f.number f.place.first f.place.oldest f.least) }
+        Finds id (D.seen disk.old) f.number f.place.first f.place.oldest f.least) }
     ensures below { D.honest disk.new → IfOk result (λ f.
         (m : ℕ) → m < f.number → D.seen disk.new m ≡ D.seen disk.old m) }
     ensures above { D.honest disk.new → IfOk result (λ f. (m : ℕ) → f.number < m → D.seen disk.new m ≡ []) }
@@ -230,9 +236,9 @@ pub(crate) fn open_folder<D: Disk>(alloc: Global, disk: &mut D, id: u64) -> Resu
     ensures there { IfOk result (λ f. f.least ≤ f.place.oldest) }
     ensures behind { D.honest disk.new → IfOk result (λ f. IsTop (D.seen disk.old) f.number f.top) }
     ensures open { IfOk result (λ f. IsSealed (records_of f.records.items) → ⊥) }
-    ensures any_moment { D.honest disk.new → (from : Origin) (records : List (List ℕ)) →
-        IsLog id (D.seen disk.old) from records →
-        LeavesOnly D.moment D.left_since disk.old disk.new (λ c. IsLog id c from records) }
+    ensures any_moment { D.honest disk.new → LeavesLog D.seen D.moment D.left_since id disk.old disk.new }
+    ensures damaged { D.honest disk.new → (segment at : ℕ) → IsErrOf result (LogFault.Damaged segment at) →
+        IsNoLog id (D.seen disk.old) }
     ensures untouched { (segment at : ℕ) → IsErrOf result (LogFault.Damaged segment at) →
         Only (D.seen disk.old) (D.may_leave disk.new) }
     ensures missing { D.honest disk.new → IsErrOf result LogFault.Missing → (n : ℕ) → D.seen disk.old n ≡ [] }

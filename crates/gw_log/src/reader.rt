@@ -1,7 +1,4 @@
 //! Reads the records of a segment, from a place on.
-ghost use Rattle.std.specs.Prelude.{◌≡◌, ◌≤◌, ◌<◌, ◌++◌, ◌∷◌, [], List, ℕ, drop, IfOk, IfSome, IfNone, IsErrOf, OnErr};
-ghost use Rattle.gw_log.specs.File.{HasNoRecord};
-ghost use Rattle.gw_log.specs.State.{IsRead};
 
 use crate::disk::Disk;
 use crate::fault::LogFault;
@@ -29,7 +26,7 @@ impl<D: Disk> Model for Reader<D> {
 }
 
 impl<D: Disk> Reader<D> {
-    ghost use Rattle.std.specs.Prelude.{◌≡◌, ◌<◌, ◌≤◌, ◌++◌, ◌∷◌, [], ℕ, List, drop};
+    ghost use Rattle.std.specs.Prelude.{◌≡◌, ◌≤◌, ◌++◌, ◌∷◌, [], ℕ, List, drop};
     ghost use Rattle.std.specs.Prelude.{IfOk, IfSome, IfNone, IsErrOf, OnErr};
     ghost use Rattle.gw_log.specs.File.{HasNoRecord};
     ghost use Rattle.gw_log.specs.State.{IsRead};

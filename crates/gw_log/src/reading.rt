@@ -1,9 +1,9 @@
 //! What is read of a file.
-ghost use Rattle.std.specs.Prelude.{◌≡◌, ◌↔◌, ◌+◌, ◌<◌, ◌^◌, ◌++◌, ◌∷◌, [], List, ℕ};
+ghost use Rattle.std.specs.Prelude.{◌≡◌, ◌↔◌, ◌<◌, ◌^◌, ◌++◌, ◌∷◌, [], List, ℕ};
 ghost use Rattle.std.specs.Prelude.{length, take, drop, Some, IfOk, IfErr, IfSome, IfNone, IsErrOf, IsTrue, OnOk};
 ghost use Rattle.std.specs.Int.{w32, to_be_bytes};
 ghost use Rattle.sha2.specs.Sha256.{sha256};
-ghost use Rattle.gw_log.specs.File.{item, body, IsUnsynced, IsDamagedAt, HasNoRecord, HasRecordAt};
+ghost use Rattle.gw_log.specs.File.{item, body, IsUnsynced, HasNoRecord, HasRecordAt};
 ghost use Rattle.gw_log.specs.own.Steps.{Begins, BeginsItem, HasNoItem, UpTo, Refuses};
 ghost use Rattle.gw_log.specs.own.Opens.{Reads};
 ghost use Rattle.gw_log.specs.State.{records_of};

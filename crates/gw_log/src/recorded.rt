@@ -2,9 +2,8 @@
 //!
 //! What a real folder keeps can't be proved. So each call is noted with its answer, and the history says what the files are by it.
 //! Of this it is proved that it is a [`Disk`]. That the folder is one too is trusted: it does what its calls answer, and a crash leaves no more.
-ghost use Rattle.std.specs.Prelude.{◌≡◌, [], ◌∷◌, length, OnOk, OnErr, ℕ, List};
+ghost use Rattle.std.specs.Prelude.{◌∷◌, length, OnOk, OnErr};
 ghost use Rattle.gw_log.specs.History as spec;
-ghost use Rattle.gw_log.specs.History.{Event, event_of};
 
 use crate::disk::{Disk, DiskFault};
 use crate::history::History;

@@ -1,8 +1,8 @@
 //! A segment of a log: the records of one file.
-ghost use Rattle.std.specs.Prelude.{◌≡◌, ◌⊎◌, ◌<◌, ◌≤◌, ◌++◌, ◌≢◌, [], true, List, ℕ, length, drop, IfOk, IfErr, IsErrOf, OnOk, OnErr};
-ghost use Rattle.gw_log.specs.Disk.{Files, Changes, Only, LeavesOnly};
-ghost use Rattle.gw_log.specs.File.{Has, HasAs, HasEither, HasOrIs, IsDamagedAt};
-ghost use Rattle.gw_log.specs.State.{IsStaged, Stands, records_of};
+ghost use Rattle.std.specs.Prelude.{◌≡◌, ◌<◌, ◌≤◌, ◌≢◌, [], ℕ, length, drop, IfOk, IsErrOf, OnOk};
+ghost use Rattle.gw_log.specs.Disk.{Changes, Only, LeavesOnly};
+ghost use Rattle.gw_log.specs.File.{Has, KeepsRecords, IsDamagedAt};
+ghost use Rattle.gw_log.specs.State.{IsStaged, records_of};
 ghost use Rattle.gw_log.specs.own.Opens.{Reads};
 
 use crate::disk::{Disk, DiskFault};
@@ -77,7 +77,7 @@ fn open_file<D: Disk>(
     ensures staged { D.honest disk.new → IfOk result (λ r.
         IsStaged D.seen D.may_leave disk.new number r.1 r.1 (records_of r.0.items) []) }
     ensures any_moment { D.honest disk.new → LeavesOnly D.moment D.left_since disk.old disk.new
-        (Changes number (HasAs (D.seen disk.old number)) (D.seen disk.old)) }
+        (KeepsRecords number (D.seen disk.old)) }
     ensures others { D.honest disk.new → OnOk result
         ((other : ℕ) → other ≢ number → D.seen disk.new other ≡ D.seen disk.old other) }
     ensures damaged { D.honest disk.new → (segment at : ℕ) →
@@ -94,12 +94,12 @@ fn open_file<D: Disk>(
 }
 
 impl<D: Disk> Segment<D> {
-    ghost use Rattle.std.specs.Prelude.{◌≡◌, ◌≢◌, ◌⊎◌, ◌++◌, ◌+◌, ◌<◌, ◌≤◌, ◌^◌, ◌∷◌, [], true, false, ℕ, List, length};
+    ghost use Rattle.std.specs.Prelude.{◌≡◌, ◌≢◌, ◌⊎◌, ◌+◌, ◌<◌, ◌≤◌, ◌^◌, ◌∷◌, [], true, false, ℕ, List, length};
     ghost use Rattle.std.specs.Prelude.{IfOk, IfErr, IsErrOf, OnOk, OnErr};
     ghost use Rattle.gw_log.specs.Disk.{Changes, IsGone, LeavesOnly, Only};
-    ghost use Rattle.gw_log.specs.File.{Has, HasAs, HasEither, HasOrIs, IsDamagedAt};
-    ghost use Rattle.gw_log.specs.State.{IsStaged, Stands, records_of};
-    ghost use Rattle.gw_log.specs.own.Turns.{Turns, HasEnded, HasTurned};
+    ghost use Rattle.gw_log.specs.File.{Has, HasEither, HasOrIs, KeepsRecords, IsDamagedAt};
+    ghost use Rattle.gw_log.specs.State.{Stands, Secures, LeavesFile, records_of};
+    ghost use Rattle.gw_log.specs.own.Turns.{LeavesTurn, HasEnded, HasTurned};
 
     /// The records of a file, of a disk that a crash may have left. It may crash too. After `Damaged` the file is as it was.
     pub fn open(
@@ -116,10 +116,10 @@ impl<D: Disk> Segment<D> {
         ensures number { IfOk result (λ r. r.0.number ≡ number) }
         ensures any_moment { IfOk result (λ r. D.honest r.0.disk →
             LeavesOnly D.moment D.left_since disk r.0.disk
-            (Changes number (HasAs (D.seen disk number)) (D.seen disk))) }
+            (KeepsRecords number (D.seen disk))) }
         ensures any_moment_err { IfErr result (λ e. D.honest e.1 →
             LeavesOnly D.moment D.left_since disk e.1
-            (Changes number (HasAs (D.seen disk number)) (D.seen disk))) }
+            (KeepsRecords number (D.seen disk))) }
         ensures damaged { IfErr result (λ e. D.honest e.1 → (segment at : ℕ) →
             e.0 ≡ LogFault.Damaged segment at → IsDamagedAt at (D.seen disk number)) }
         ensures untouched { IfErr result (λ e. (segment at : ℕ) →
@@ -201,10 +201,8 @@ impl<D: Disk> Segment<D> {
         ensures ok { (these : List (List ℕ)) → Stands D.seen D.may_leave self.old these [] →
             D.seen self.old.disk (self.old.number + 1) ≡ [] →
             IfOk result (λ size. HasTurned D.seen D.may_leave self.old self.new size these (records_of next.now)) }
-        ensures any_moment { (these : List (List ℕ)) → Stands D.seen D.may_leave self.old these [] →
-            D.seen self.old.disk (self.old.number + 1) ≡ [] →
-            LeavesOnly D.moment D.left_since self.old.disk self.new.disk
-            (Turns self.old.number these (records_of next.now) (D.seen self.old.disk)) }
+        ensures any_moment { LeavesTurn D.seen D.may_leave D.moment D.left_since
+            self.old self.new (records_of next.now) }
         ensures number { self.new.number ≡ self.old.number }
         ensures back { D.honest self.new.disk → D.honest self.old.disk }
     {
@@ -228,10 +226,8 @@ impl<D: Disk> Segment<D> {
             D.seen self.old.disk (self.old.number + 1) ≡ [] →
             OnOk result (HasEnded self.old.number these (D.seen self.old.disk) (D.seen self.new.disk)) }
         ensures number { OnOk result (self.new.number ≡ self.old.number + 1) }
-        ensures any_moment { (these : List (List ℕ)) → Stands D.seen D.may_leave self.old these [] →
-            D.seen self.old.disk (self.old.number + 1) ≡ [] →
-            LeavesOnly D.moment D.left_since self.old.disk self.new.disk
-            (Turns self.old.number these (records_of next.now) (D.seen self.old.disk)) }
+        ensures any_moment { LeavesTurn D.seen D.may_leave D.moment D.left_since
+            self.old self.new (records_of next.now) }
         ensures back { D.honest self.new.disk → D.honest self.old.disk }
     {
         let size = self.turn(next, end)?;
@@ -282,17 +278,14 @@ impl<D: Disk> Segment<D> {
     /// Puts a batch behind the others, and brings it to the disk. It counts only once the next batch was put, or the segment was settled.
     pub fn put(&mut self, batch: &[Vec<u8>]) -> Result<(), LogFault>
         // At `Ok` all that was pending counts, whatever crash comes, and the batch is pending.
-        ensures ok { (these those : List (List ℕ)) → Stands D.seen D.may_leave self.old these those →
-            OnOk result (Stands D.seen D.may_leave self.new (these ++ those) (records_of batch.now)) }
+        ensures ok { Secures D.seen D.may_leave self.old self.new (records_of batch.now) result }
         ensures err { OnErr result ((self.new ≡ self.old) ⊎ (self.new.broken ≡ true)) }
         ensures number { self.new.number ≡ self.old.number }
         ensures full { IsErrOf result LogFault.Full → 2 ^ 60 ≤ self.old.reach }
         ensures empty { IsErrOf result LogFault.Empty → ⊥ }
 
         // A crash at any moment leaves what counted, or that with all that was pending.
-        ensures any_moment { (these those : List (List ℕ)) → Stands D.seen D.may_leave self.old these those →
-            LeavesOnly D.moment D.left_since self.old.disk self.new.disk
-            (Changes self.old.number (HasEither these (these ++ those)) (D.seen self.old.disk)) }
+        ensures any_moment { LeavesFile D.seen D.may_leave D.moment D.left_since HasEither self.old self.new }
         ensures others { OnOk result ((other : ℕ) → other ≢ self.old.number →
             D.seen self.new.disk other ≡ D.seen self.old.disk other) }
         ensures back { D.honest self.new.disk → D.honest self.old.disk }
@@ -322,13 +315,10 @@ impl<D: Disk> Segment<D> {
 
     /// Brings all that is pending to the disk, so that it counts.
     pub fn settle(&mut self) -> Result<(), LogFault>
-        ensures ok { (these those : List (List ℕ)) → Stands D.seen D.may_leave self.old these those →
-            OnOk result (Stands D.seen D.may_leave self.new (these ++ those) []) }
+        ensures ok { Secures D.seen D.may_leave self.old self.new [] result }
         ensures err { OnErr result (self.new.broken ≡ true) }
         ensures number { self.new.number ≡ self.old.number }
-        ensures any_moment { (these those : List (List ℕ)) → Stands D.seen D.may_leave self.old these those →
-            LeavesOnly D.moment D.left_since self.old.disk self.new.disk
-            (Changes self.old.number (HasOrIs these (these ++ those)) (D.seen self.old.disk)) }
+        ensures any_moment { LeavesFile D.seen D.may_leave D.moment D.left_since HasOrIs self.old self.new }
         ensures others { OnOk result ((other : ℕ) → other ≢ self.old.number →
             D.seen self.new.disk other ≡ D.seen self.old.disk other) }
         ensures back { D.honest self.new.disk → D.honest self.old.disk }

@@ -1,6 +1,6 @@
 //! Records as bytes.
-ghost use Rattle.std.specs.Prelude.{◌≡◌, ◌<◌, ◌≤◌, ◌^◌, ◌++◌, ◌∷◌, [], List, ℕ, length, IfOk, OnOk, IsErrOf};
-ghost use Rattle.gw_log.specs.File.{AreShort, blocks, body, item};
+ghost use Rattle.std.specs.Prelude.{◌≡◌, ◌<◌, ◌≤◌, ◌^◌, ◌++◌, ◌∷◌, length, IfOk, OnOk, IsErrOf};
+ghost use Rattle.gw_log.specs.File.{AreShort, body, item};
 ghost use Rattle.gw_log.specs.State.{at_rest, records_of};
 
 use crate::digest::{DIGEST, digest_of};

@@ -1,7 +1,7 @@
 -- The steps in which a log is opened.
-use Rattle.std.specs.Prelude.{◌≡◌, ◌≢◌, ◌⊎◌, ℕ, ◌+◌, ◌<◌, ◌≤◌, List, [], length}
-use Rattle.gw_log.specs.Disk.{Files, LeavesOnly}
-use Rattle.gw_log.specs.Chain.{Origin, IsLog}
+use Rattle.std.specs.Prelude.{◌≡◌, ◌≢◌, ◌⊎◌, ℕ, ◌+◌, ◌<◌, ◌≤◌, List, []}
+use Rattle.gw_log.specs.Disk.{Files, LeavesOnly, AreEnds}
+use Rattle.gw_log.specs.Chain.{Origin, IsLog, HasHead}
 
 -- A run of calls that only reads: the files are the same, and a crash leaves no more than before it, at any moment
 pub record Reads {D : Type 0} (seen : D → Files) (may_leave : D → Files → Type 0) (moment : D → ℕ) (left_since : D → ℕ → Files → Type 0) (honest : D → Type 0) (old new : D) : Type 0 where
@@ -22,8 +22,32 @@ pub record IsFound (id : ℕ) (files : Files) (from : Origin) (records : List (L
   pub its_oldest : log.head.oldest ≡ oldest
   pub its_least : from.number ≡ least
 
+-- whatever log the folder is
+abbrev pub Finds : (id : ℕ) → Files → (number first oldest least : ℕ) → Type 0
+Finds id files number first oldest least =
+    (from : Origin) (records : List (List ℕ)) (log : IsLog id files from records) → IsFound id files from records log number first oldest least
+
+-- of whatever log the folder is, from this file to that one, this is the last
+abbrev pub IsLastOf : (first top n : ℕ) → Files → Type 0
+IsLastOf first top n files =
+    (id : ℕ) (from : Origin) (records : List (List ℕ)) (log : IsLog id files from records) → AreEnds first top files → log.head.number ≡ n
+
 -- no file but that of the top number stands behind the last one, and that next to it
 pub record IsTop (files : Files) (last top : ℕ) : Type 0 where
   pub low : last ≤ top
   pub high : top ≤ last + 1
   pub none : (m : ℕ) → top < m → files m ≡ []
+
+-- the file has no head of this log and number
+abbrev pub HasNoHead : (id number : ℕ) → List ℕ → Type 0
+HasNoHead id number file = (before : ℕ) → HasHead id number before file → ⊥
+
+-- the folder is no log whose files go from the first to the last
+abbrev pub IsNoLogOf : (id first last : ℕ) → Files → Type 0
+IsNoLogOf id first last files =
+    (from : Origin) (records : List (List ℕ)) (log : IsLog id files from records) → from.number ≡ first → log.head.number ≡ last → ⊥
+
+-- nor, with files from the first to the top, one of any number
+abbrev pub IsNoLogUpTo : (first top : ℕ) → Files → Type 0
+IsNoLogUpTo first top files =
+    (id : ℕ) (from : Origin) (records : List (List ℕ)) → IsLog id files from records → AreEnds first top files → ⊥

@@ -1,8 +1,8 @@
 -- How a log goes on to its next file.
 use Rattle.std.specs.Prelude.{◌≡◌, ◌≢◌, ◌⊎◌, false, ℕ, ◌+◌, List, [], ◌∷◌, ◌++◌}
-use Rattle.gw_log.specs.Disk.{Files}
+use Rattle.gw_log.specs.Disk.{Files, LeavesOnly}
 use Rattle.gw_log.specs.File.{blocks, AreShort, Has, HasEither}
-use Rattle.gw_log.specs.State.{SegmentState, IsStaged}
+use Rattle.gw_log.specs.State.{SegmentState, IsStaged, Stands}
 use Rattle.gw_log.specs.Chain.{Head, spelled, IsWide, LogState}
 
 -- The file of this number is being ended, and the next one begun with these records. Either the first isn't ended yet and the second has none of them or all,
@@ -22,6 +22,12 @@ pub record HasTurned {D : Type 0} (seen : D → Files) (may_leave : D → Files 
   pub unbroken : new.broken ≡ false
   pub begun : IsStaged seen may_leave new.disk (old.number + 1) size size next []
   pub ended : HasEnded old.number these (seen old.disk) (seen new.disk)
+
+-- a crash at any moment since then leaves a file that is being ended, and the next one begun
+abbrev pub LeavesTurn : {D : Type 0} → (D → Files) → (D → Files → Type 0) → (D → ℕ) → (D → ℕ → Files → Type 0) → SegmentState D → SegmentState D → List (List ℕ) → Type 0
+LeavesTurn seen may_leave moment left_since old new next =
+    (these : List (List ℕ)) → Stands seen may_leave old these [] → seen old.disk (old.number + 1) ≡ []
+    → LeavesOnly moment left_since old.disk new.disk (Turns old.number these next (seen old.disk))
 
 -- the head of the file behind that of a log, as a batch
 pub record IsNext {D : Type 0} (s : LogState D) (oldest : ℕ) (batch : List (List ℕ)) : Type 0 where

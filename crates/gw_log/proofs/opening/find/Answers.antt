@@ -1,7 +1,7 @@
-use Rattle.std.proofs.Common.{◌∙◌, sym, subst}
-use Rattle.gw_log.specs.Disk.{Files, AreEnds}
+use Rattle.std.proofs.Common.{◌∙◌}
 use Rattle.gw_log.proofs.Placing.{none_within}
-use Rattle.gw_log.proofs.Founding.{found_so, last_same, begins_same, top_so}
+use Rattle.gw_log.proofs.Founding.{found_so, least_is, last_same, begins_same, top_so}
+use Rattle.gw_log.proofs.Denying.{handed_on, none_of_same, none_up_same}
 use Rattle.gw_log.proofs.opening.find.Goals as goal
 
 pub returns-then-top-least-clause-missing : goal.returns-then-top-least-clause-missing
@@ -22,3 +22,19 @@ returns-clause-top g c = λ honest.
 
 pub returns-clause-head : goal.returns-clause-head
 returns-clause-head g c = λ honest. begins_same _ _ _ _ _ _ _ (c.last_born.ensures.reads.same ∙ c.ends.ensures.seen) (c.in_ok-place.ensures.begins honest)
+
+pub returns-in_err-number-clause-damaged : goal.returns-in_err-number-clause-damaged
+returns-in_err-number-clause-damaged g c = λ honest segment at fault from records log.
+    let none = c.in_err-number.ensures.damaged honest segment at
+    (handed_on c.from_residual-in_err-number.result _ _ c.from_residual-in_err-number.ensures fault) in
+    none_up_same _ _ _ _ c.ends.ensures.seen none _ from records log (c.in_ok-least.ensures.ends (c.last_born.ensures.reads.back honest))
+
+pub returns-in_err-place-clause-damaged : goal.returns-in_err-place-clause-damaged
+returns-in_err-place-clause-damaged g c = λ honest segment at fault from records log.
+    let none = c.in_err-place.ensures.damaged honest segment at
+    (handed_on c.from_residual-in_err-place.result _ _ c.from_residual-in_err-place.ensures fault) in
+    let born = c.linked.ensures.reads.back honest in
+    let ends = c.in_ok-least.ensures.ends (c.last_born.ensures.reads.back born) in
+    let last = last_same _ _ _ _ _ c.ends.ensures.seen (c.in_ok-number.ensures.last born) in
+    none_of_same _ _ _ _ _ (c.last_born.ensures.reads.same ∙ c.ends.ensures.seen) none from records log
+    (least_is _ _ _ _ log _ _ ends) (last _ _ _ log ends)

@@ -4,6 +4,7 @@ use Rattle.gw_log.specs.State.{records_of}
 use Rattle.gw_log.specs.own.Steps.{UpTo}
 use Rattle.gw_log.proofs.Moments.{weaker, joined}
 use Rattle.gw_log.proofs.Founding.{log_same, log_trimmed, log_repaired, only_read, trimmed_as, last_kept}
+use Rattle.gw_log.proofs.Denying.{handed_on}
 use Rattle.gw_log.proofs.opening.open_folder.Goals as goal
 
 pub returns-in_err-found-clause-any_moment : goal.returns-in_err-found-clause-any_moment
@@ -64,3 +65,7 @@ returns-clause-staged g c = λ honest.
 
 pub returns-clause-found : goal.returns-clause-found
 returns-clause-found g c = λ honest. c.in_ok-found.ensures.found (c.trim.ensures.back (c.repair.ensures.back honest))
+
+pub returns-in_err-found-clause-damaged : goal.returns-in_err-found-clause-damaged
+returns-in_err-found-clause-damaged g c = λ honest segment at fault.
+    c.in_err-found.ensures.damaged honest segment at (handed_on c.from_residual.result _ _ c.from_residual.ensures fault)

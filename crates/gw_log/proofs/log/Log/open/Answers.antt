@@ -1,7 +1,8 @@
-use Rattle.std.proofs.Common.{◌≡◌, ◌-◌, ℕ, length, ap, subst, arith}
+use Rattle.std.proofs.Common.{◌≡◌, ◌-◌, ℕ, length, ap, subst, arith, Err}
 use Rattle.std.specs.Prelude.{Vec}
 use Rattle.std.specs.declared.alloc.Global.{Global}
 use Rattle.std.proofs.lemmas.List.{length-map}
+use Rattle.gw_log.specs.declared.fault.LogFault.{LogFault}
 use Rattle.gw_log.specs.State.{SegmentState, records_of}
 use Rattle.gw_log.proofs.Turning.{leaves_at}
 use Rattle.gw_log.proofs.Founding.{opened, head_at, none_behind}
@@ -33,3 +34,6 @@ returns-clause-behind g c = λ honest n lt.
     let same = ap (λ (s : SegmentState g.row.D.Denot). s.disk) c.over.ensures in
     let number = ap (λ (s : SegmentState g.row.D.Denot). s.number) c.over.ensures in
     none_behind _ _ _ (c.in-Ok.ensures.behind (subst g.D.Disk.honest same honest)) n (omega (arith, lt, number))
+
+pub returns-in-Err-clause-undamaged : goal.returns-in-Err-clause-undamaged
+returns-in-Err-clause-undamaged g c = λ honest segment at is. c.in-Err.ensures.damaged honest segment at (ap (λ (f : LogFault). Err f) is)

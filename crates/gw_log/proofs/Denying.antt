@@ -1,0 +1,125 @@
+-- A folder that is reported damaged is no log.
+use Rattle.std.proofs.Common.{◌≡◌, inl, inr, ℕ, ◌+◌, ◌-◌, ◌<◌, ◌≤◌, List, ◌∷◌, ◌++◌, length, drop, refl, sym, ◌∙◌, ap, subst, arith, append_assoc, Result, Ok, Err, IsErr, IsErrAnd, IsErrOf}
+use Rattle.std.proofs.lemmas.Bool.{cases_eq}
+use Rattle.gw_log.specs.Disk.{Files, AreEnds}
+use Rattle.gw_log.specs.File.{body, blocks, Has, HasNoRecord, HasRecordAt, IsDamagedAt}
+use Rattle.gw_log.specs.Chain.{Head, spelled, IsWide, ended, AreBefore, none, more, Origin, IsLog, HasHead}
+use Rattle.gw_log.specs.Opening.{BeginsAs, IsSealed}
+use Rattle.gw_log.specs.own.Opens.{HasNoHead, IsNoLogOf, IsNoLogUpTo}
+use Rattle.gw_log.specs.own.Steps.{UpTo}
+use Rattle.gw_log.proofs.Ways.{first_same, not_both}
+use Rattle.gw_log.proofs.Placing.{same_numbers, first_of, next_of, has_ended}
+use Rattle.gw_log.proofs.Founding.{last_within, top_near, least_is, last_open}
+
+head_whole : (h : Head) (records : List (List ℕ)) (file : List ℕ) (has : Has (spelled h ∷ records) file) → file ≡ 1 ∷ body (spelled h) ++ (blocks records ++ has.end)
+head_whole h records file has = has.whole ∙ ap (λ (l : List ℕ). 1 ∷ l) (append_assoc (body (spelled h)) (blocks records) has.end)
+
+-- the record at a file's front is its head
+same_first : (id n b : ℕ) (bytes file : List ℕ) (h : HasHead id n b file) → HasRecordAt 0 bytes file → bytes ≡ spelled h.head
+same_first id n b bytes file h here =
+    (first_same bytes (spelled h.head) (drop (0 + length (1 ∷ body bytes)) file) (blocks h.records ++ h.has.end) here.short h.has.short.0
+    (sym here.whole ∙ head_whole h.head h.records file h.has)).0
+
+pub no_record_there : (id n : ℕ) (file : List ℕ) → HasNoRecord (drop 0 file) → HasNoHead id n file
+no_record_there id n file bare b h = bare (spelled h.head) (blocks h.records ++ h.has.end) h.has.short.0 (head_whole h.head h.records file h.has)
+
+pub no_head_there : (id n : ℕ) (read bytes file : List ℕ) → HasRecordAt 0 bytes file → read ≡ bytes → length read < 40 → HasNoHead id n file
+no_head_there id n read bytes file here is short b h = omega (arith, short, ap length is, ap length (same_first id n b bytes file h here))
+
+pub other_there : (id n : ℕ) (g : Head) (read bytes file : List ℕ) → HasRecordAt 0 bytes file → read ≡ bytes → read ≡ spelled g → IsWide g
+    → (g.number ≡ n → g.id ≡ id → ⊥) → HasNoHead id n file
+other_there id n g read bytes file here is spells wide differs b h =
+    let same = same_numbers g h.head wide h.wide (sym spells ∙ is ∙ same_first id n b bytes file h here) in
+    differs (same.0 ∙ h.its_number) (same.4 ∙ h.its_id)
+
+before_is : (id n b f before o : ℕ) (file : List ℕ) → HasHead id n b file → BeginsAs id n f before o file → before ≡ b
+before_is id n b f before o file h begins =
+    let same = same_numbers begins.head h.head begins.wide h.wide (same_first id n b (spelled begins.head) file h begins.here) in
+    sym begins.its_before ∙ same.2 ∙ h.its_before
+
+-- ---- the heads
+
+module _ (id : ℕ) (files : Files) (from : Origin) (records : List (List ℕ)) (log : IsLog id files from records) (first last : ℕ) (start : from.number ≡ first)
+    (end : log.head.number ≡ last) where
+  pub first_has : HasNoHead id first (files first) → ⊥
+  first_has not = not from.before (subst (λ k. HasHead id k from.before (files k)) start (first_of id files from records log))
+
+  pub next_has : (n : ℕ) → first ≤ n → n < last → HasNoHead id (n + 1) (files (n + 1)) → ⊥
+  next_has n le lt not = not (length (files n)) (next_of id files from records log n (omega (arith, le, start)) (omega (arith, lt, end)))
+
+  pub size_is : (n f before o : ℕ) → first ≤ n → n < last → BeginsAs id (n + 1) f before o (files (n + 1)) → before ≡ length (files n)
+  size_is n f before o le lt begins =
+      before_is id (n + 1) (length (files n)) f before o (files (n + 1)) (next_of id files from records log n (omega (arith, le, start)) (omega (arith, lt, end))) begins
+
+  pub oldest_is : (n f before o : ℕ) → n ≡ last → BeginsAs id n f before o (files n) → o < first → ⊥
+  oldest_is n f before o is begins lt =
+      let head : HasHead log.head.id log.head.number log.head.before (files log.head.number) = record {
+        head = log.head;
+        records = log.these;
+        wide = log.last.wide;
+        has = log.last.has;
+        its_id = refl;
+        its_number = refl;
+        its_before = refl;
+      } in
+      let here = subst (λ k. HasRecordAt 0 (spelled begins.head) (files k)) (is ∙ sym end) begins.here in
+      let same = same_numbers begins.head log.head begins.wide log.last.wide
+      (same_first log.head.id log.head.number log.head.before (spelled begins.head) (files log.head.number) head here) in
+      omega (arith, lt, begins.its_oldest, same.3, log.there, start)
+
+-- ---- the last file
+
+-- each file before the last has records
+has_at : (id : ℕ) (files : Files) (last : Head) (n f b at : ℕ) (front : List (List ℕ)) (m : ℕ) → n ≤ m → m < last.number
+    → AreBefore id files last n f b front → IsDamagedAt at (files m) → ⊥
+has_at id files last n f b at _ m le lt (none _ _ _ fol) damage = absurd (omega (arith, le, lt, fol.its_number))
+has_at id files last n f b at _ m le lt (more _ _ _ h these those fol is rest) damage = elim (cases_eq m n) [
+  | inl here ↦ not_both (files n) (ended h these) at (has_ended h these (files n) is) (subst (λ k. IsDamagedAt at (files k)) here damage)
+  | inr differs ↦ has_at id files last (n + 1) (f + length these) (length (files n)) at those m (omega (arith, le, differs)) lt rest damage
+]
+
+module _ (id : ℕ) (files : Files) (from : Origin) (records : List (List ℕ)) (log : IsLog id files from records) (first top : ℕ) (ends : AreEnds first top files) where
+  at_last : (at n : ℕ) → n ≡ log.head.number → IsDamagedAt at (files n) → ⊥
+  at_last at n is damage =
+      not_both (files log.head.number) (spelled log.head ∷ log.these) at log.last.has (subst (λ k. IsDamagedAt at (files k)) is damage)
+
+  pub top_whole : (at : ℕ) → IsDamagedAt at (files top) → ⊥
+  top_whole at damage = elim (cases_eq top log.head.number) [
+    | inl is ↦ at_last at top is damage
+    | inr differs ↦
+        let next : top ≡ log.head.number + 1 = omega (arith, differs, (last_within id files from records log first top ends).1, top_near id files from records log first top ends) in
+        not_both (files (log.head.number + 1)) log.unborn.records at log.unborn.has (subst (λ k. IsDamagedAt at (files k)) next damage)
+  ]
+
+  pub former_whole : (at : ℕ) → first < top → IsDamagedAt at (files (top - 1)) → ⊥
+  former_whole at lt damage = elim (cases_eq top log.head.number) [
+    | inl is ↦ has_at id files log.head from.number from.first from.before at log.front (top - 1)
+        (omega (arith, lt, least_is id files from records log first top ends)) (omega (arith, lt, is)) log.ended damage
+    | inr differs ↦
+        at_last at (top - 1) (omega (arith, differs, (last_within id files from records log first top ends).1, top_near id files from records log first top ends)) damage
+  ]
+
+  pub last_is_open : (rows : List (List ℕ)) (end : ℕ) → log.head.number ≡ top → UpTo (files top) end rows → IsSealed rows → ⊥
+  last_is_open rows end is up sealed =
+      last_open log.head log.these rows (files log.head.number) log.last (subst (λ k. Has rows (files k)) (sym is) up.has) sealed
+
+-- ---- what was read before a step, of what is there after it
+
+pub no_head_same : (id n : ℕ) (f g : Files) → f ≡ g → HasNoHead id n (f n) → HasNoHead id n (g n)
+no_head_same id n f g is denied = subst (λ (h : Files). HasNoHead id n (h n)) is denied
+
+pub damaged_same : (at n : ℕ) (f g : Files) → f ≡ g → IsDamagedAt at (f n) → IsDamagedAt at (g n)
+damaged_same at n f g is damage = subst (λ (h : Files). IsDamagedAt at (h n)) is damage
+
+pub none_of_same : (id first last : ℕ) (f g : Files) → f ≡ g → IsNoLogOf id first last f → IsNoLogOf id first last g
+none_of_same id first last f g is denied = subst (λ (h : Files). IsNoLogOf id first last h) is denied
+
+pub none_up_same : (first top : ℕ) (f g : Files) → f ≡ g → IsNoLogUpTo first top f → IsNoLogUpTo first top g
+none_up_same first top f g is denied = subst (λ (h : Files). IsNoLogUpTo first top h) is denied
+
+-- what a call answers where a `?` hands its fault on
+pub handed_on : {T U E : Type 0} (r : Result U E) (e d : E) → IsErr r × IsErrAnd r (λ f. f ≡ e) → IsErrOf r d → IsErrOf {T = T} (Err e) d
+handed_on (Ok u) e d both is = absurd both.1
+handed_on {E = E} (Err f) e d both is =
+    let same : f ≡ d = cc (is) in
+    ap (λ (x : E). Err x) (sym both.1 ∙ same)
