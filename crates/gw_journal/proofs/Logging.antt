@@ -171,20 +171,6 @@ module _ {S : Type 0} (stands : S → List (List ℕ) → List (List ℕ) → Ty
       ap (λ (l : Log). slice_get l.records place) (log_more before old new (Put bytes) is)
       ∙ ap (λ n. slice_get (log.records ++ bytes ∷ []) n) whole ∙ get_last log.records bytes
 
-  -- all that is left is in a thread's hands
-  pub true_taken : (storage : Option S) (batch none : List (List ℕ)) (given settled now : ℕ) (log : Log)
-      → IsTrue stands storage batch given settled log → now ≡ given + length batch → none ≡ [] → IsTrue stands None none now settled log
-  true_taken storage batch none given settled now log t is empty =
-      let whole : now ≡ length log.records = omega (arith, is, ap length t.not_given, length_drop given log.records, t.within) in
-      record {
-        not_given = empty ∙ sym (ap (λ n. drop n log.records) whole ∙ drop_all log.records);
-        within = omega (arith, whole);
-        order = omega (arith, is, t.order);
-        synced = t.synced;
-        room = t.room;
-        keeps = tt;
-      }
-
   -- the storage with a batch that it was given, if only an empty one
   pub done_put : (job : JobState S) (s : S) (now : ℕ) (log : Log) → IsJob stands job log → now ≡ job.given + length job.batch
       → stands s (take job.settled log.records ++ drop job.settled (take job.given log.records)) job.batch

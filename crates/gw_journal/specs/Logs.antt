@@ -1,9 +1,10 @@
 -- What is known of a journal, by its history.
-use Rattle.std.specs.Prelude.{ℕ, ◌<◌, ◌≤◌, ◌≡◌, ◌^◌, max, Bool, false, List, [], ◌∷◌, ◌++◌, length, take, drop, map, slice_get, Option, Some, IfSome, Vec}
+use Rattle.std.specs.Prelude.{ℕ, ◌+◌, ◌<◌, ◌≤◌, ◌≡◌, ◌^◌, max, ◌⊎◌, List, [], ◌∷◌, ◌++◌, length, take, drop, map, slice_get, Option, Some, IfSome, IsSome, IsNone, Vec}
 use Rattle.std.specs.declared.alloc.Global.{Global}
 use mathlib.Core.List.{IsPrefix}
 use Rattle.gw_journal.specs.declared.event.Event.{Event}
 use Rattle.gw_journal.specs.declared.event.Event.TheVariants.{Put, Synced}
+use Rattle.gw_journal.specs.declared.fault.JournalFault.{JournalFault}
 
 -- the bytes of records in memory
 abbrev pub records_of : List (Vec ℕ Global) → List (List ℕ)
@@ -73,14 +74,23 @@ pub record StandsAt {S : Type 0} (stands : S → List (List ℕ) → List (List 
 
 -- ---- what lies under the lock, and what a thread takes from there
 
--- the storage, where no thread has it; the records that it wasn't given; how many it was given, and how many of them count; the history
+-- the storage, where no thread has it; the records that it wasn't given; how many it was given, and how many of them count; the history;
+-- why nothing more is asked of the journal, if that is so
 pub record DeskState (S : Type 0) : Type 0 where
   pub storage : Option S
   pub batch : List (List ℕ)
   pub given : ℕ
   pub settled : ℕ
   pub history : List Event
-  pub fault : Bool
+  pub fault : Option JournalFault
+
+-- there are 2^62 records or events
+abbrev pub IsFull : {S : Type 0} → DeskState S → Type 0
+IsFull desk = (2 ^ 62 ≤ desk.given + length desk.batch) ⊎ (2 ^ 62 ≤ length desk.history)
+
+-- nothing is asked of the storage: there was a fault, or a thread has it, or it has all records and they count
+abbrev pub IsIdle : {S : Type 0} → DeskState S → Type 0
+IsIdle desk = IsSome desk.fault ⊎ IsNone desk.storage ⊎ ((desk.batch ≡ []) × (desk.given ≡ desk.settled))
 
 -- the counts and the records are those of the journal
 pub record IsTrue {S : Type 0} (stands : S → List (List ℕ) → List (List ℕ) → Type 0) (storage : Option S) (batch : List (List ℕ))
@@ -111,7 +121,7 @@ pub record IsDone {S : Type 0} (stands : S → List (List ℕ) → List (List �
 
 -- what comes back is what a thread took last
 pub record ComesBack {S : Type 0} (desk : DeskState S) (done : JobState S) : Type 0 where
-  pub well : desk.fault ≡ false
+  pub well : IsNone desk.fault
   pub given : done.given ≡ desk.given
   pub more : desk.settled ≤ done.settled
   pub part : IsPrefix done.history desk.history

@@ -1,5 +1,5 @@
 -- A log on a disk as the storage of a journal.
-use Rattle.std.specs.Prelude.{ℕ, ◌≡◌, List, Some, slice_get}
+use Rattle.std.specs.Prelude.{ℕ, ◌≡◌, ◌⊎◌, true, List, Some, slice_get}
 use Rattle.gw_log.specs.Chain.{LogState, Origin, Holds, IsEither, IsLog}
 use Rattle.gw_log.specs.Disk.{Files, LeavesOnly}
 
@@ -12,6 +12,10 @@ pub record IsHeld {D : Type 0} (seen : D → Files) (may_leave : D → Files →
 pub record LeavesEither {D : Type 0} (moment : D → ℕ) (left_since : D → ℕ → Files → Type 0) (old new : LogState D) (these those : List (List ℕ)) : Type 0 where
   pub from : Origin
   pub leaves : LeavesOnly moment left_since old.segment.disk new.segment.disk (IsEither old.id from these those)
+
+-- a fault leaves the log as it was, or nothing more is asked of it
+abbrev pub Fails : {D : Type 0} → LogState D → LogState D → Type 0
+Fails old new = (new ≡ old) ⊎ (new.segment.broken ≡ true)
 
 -- the record stands at this place of the log of this number in these files
 pub record HasAt (id place : ℕ) (bytes : List ℕ) (files : Files) : Type 0 where

@@ -1,5 +1,5 @@
 //! The history of a journal, and what was seen of it.
-ghost use Rattle.std.specs.Prelude.{◌≡◌, ◌++◌, ◌∷◌, [], ℕ, List, length, MatchBool, true, None};
+ghost use Rattle.std.specs.Prelude.{◌≡◌, ◌≤◌, ◌<◌, ◌^◌, ◌++◌, ◌∷◌, ◌⊎◌, ◌↔◌, [], MatchBool, IsTrue, IsFalse, length, true, None};
 ghost use mathlib.Core.List.{IsPrefix};
 ghost use Rattle.gw_journal.specs.Rules.{head_of};
 ghost use Rattle.gw_journal.specs.declared.event.Event.TheVariants as event;
@@ -165,7 +165,8 @@ impl<J: Naming> Front<J> {
 
     /// Whether this begins the other, or is as long. If not, the other begins this.
     pub fn begins(&self, other: &Front<J>) -> bool
-        ensures { MatchBool result (IsPrefix self.now other.now) (IsPrefix other.now self.now) }
+        ensures begins { MatchBool result (IsPrefix self.now other.now) (IsPrefix other.now self.now) }
+        ensures longer { IsFalse result → length other.now < length self.now }
     {
         let mut both = self.seen.again();
         both.learn(&other.seen);
@@ -200,6 +201,13 @@ impl<J: Naming> History<J> {
         &self.front
     }
 
+    /// Whether it has 2^62 events.
+    pub(crate) fn is_full(&self) -> bool
+        ensures { IsTrue result ↔ 2 ^ 62 ≤ length self.now }
+    {
+        self.front.events >= MOST
+    }
+
     /// Adds an event. False: it was not added. Nobody else adds one, so there was no room.
     pub(crate) fn add<X>(&mut self, about: &X) -> bool
     where
@@ -207,6 +215,7 @@ impl<J: Naming> History<J> {
         requires free { (⟦<Add as Plain<X, Event, u64>>⟧.state about.now) ≡ None }
         ensures later { IsPrefix self.old self.new }
         ensures added { result ≡ true → self.new ≡ self.old ++ ⟦<Add as Plain<X, Event, u64>>⟧.ask about.now ∷ [] }
+        ensures failed { IsFalse result → (2 ^ 62 ≤ length self.old) ⊎ (length self.old < length self.new) }
     {
         let length = self.front.events;
         if length >= MOST {

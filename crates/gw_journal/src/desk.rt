@@ -1,7 +1,7 @@
 //! What lies under the lock of a journal, and what threads take from it.
-ghost use Rattle.std.specs.Prelude.{◌≡◌, ◌≤◌, [], IfOk, IfErr, IfSome, OnOk, true, length, ℕ, List, ◌++◌};
+ghost use Rattle.std.specs.Prelude.{◌≡◌, ◌≤◌, ◌<◌, ◌^◌, ◌⊎◌, ◌↔◌, [], IfOk, IfErr, IfSome, IsErrOf, IsNone, IsSome, OnOk, OnErr, Some, IsTrue, length, ℕ, List, ◌++◌, ◌∷◌};
 ghost use mathlib.Core.List.{IsPrefix};
-ghost use Rattle.gw_journal.specs.Logs.{ComesBack, IsAt, IsStored, Outlives, StandsAt, log_in, records_of};
+ghost use Rattle.gw_journal.specs.Logs.{ComesBack, IsAt, IsFull, IsIdle, IsStored, Outlives, StandsAt, log_in, records_of};
 
 use crate::book::{Front, History, Naming, Opened, Putting, Syncing};
 use crate::fault::JournalFault;
@@ -66,7 +66,7 @@ impl<J: Naming, S: Storage + Drop> Model for Desk<J, S> {
       given = d.given;
       settled = d.settled;
       history = d.history;
-      fault = is_some d.fault;
+      fault = d.fault;
     } };
 
     ghost invariant = { λ d. (is_some d.fault ≡ false → IsTrue S.stands d.storage (records_of d.batch.items) d.given d.settled (log_in J.before d.history))
@@ -138,6 +138,7 @@ impl<J: Naming> Receipt<J> {
 #[tactic(auto, using(crate::proofs::Logging::stored_by, crate::proofs::Logging::stored_same))]
 fn stored<J: Naming>(ticket: &Ticket<J>, front: &Front<J>, synced: u64) -> Option<Receipt<J>>
     requires { synced ≤ (log_in J.before front.now).synced }
+    ensures none { IsNone result ↔ synced ≤ ticket.now.place }
     ensures place { IfSome result (λ r. r.place ≡ ticket.now.place) }
     ensures stored { (bytes : List ℕ) → IsAt ticket.now.place bytes (log_in J.before ticket.now.history)
         → IfSome result (λ r. IsStored ticket.now.place bytes (log_in J.before r.history)) }
@@ -164,6 +165,7 @@ fn bring<S: Storage>(storage: &mut S, batch: &[Vec<u8>]) -> Result<(), JournalFa
         OnOk result (S.stands storage.new (these ++ those) (records_of batch.now)) }
     ensures any_moment { (these those : List (List ℕ)) → S.stands storage.old these those →
         S.leaves storage.old storage.new these (these ++ those) }
+    ensures err { IfErr result (λ fault. S.fails storage.old storage.new fault) }
 {
     if batch.is_empty() {
         return storage.settle();
@@ -172,13 +174,14 @@ fn bring<S: Storage>(storage: &mut S, batch: &[Vec<u8>]) -> Result<(), JournalFa
 }
 
 impl<J: Naming, S: Storage + Drop> Job<J, S> {
-    /// Gives the storage its batch, or has it settle. A crash at any moment leaves each record that there was a receipt for.
+    /// Gives the storage its batch, or has it settle. A crash at any moment leaves each record that there was a receipt for. A fault is the storage's own.
     pub fn run(self) -> Result<Done<J, S>, (JournalFault, S)>
         ensures same { IfOk result (λ done. done.history ≡ self.history) }
         ensures any_moment { IfOk result (λ done. (place : ℕ) (bytes : List ℕ) → IsStored place bytes (log_in J.before self.history)
             → Outlives S.leaves self.storage done.storage place bytes) }
         ensures any_moment_err { IfErr result (λ e. (place : ℕ) (bytes : List ℕ) → IsStored place bytes (log_in J.before self.history)
             → Outlives S.leaves self.storage e.1 place bytes) }
+        ensures err { IfErr result (λ e. S.fails self.storage e.1 e.0) }
     {
         let Job {
             storage,
@@ -207,7 +210,9 @@ impl<J: Naming, S: Storage + Drop> Desk<J, S> {
         requires book { opened.seen.book ≡ J.book }
         requires stands { S.stands storage J.before [] }
         requires count { count ≡ length J.before }
-        ensures { result.history ≡ [] }
+        ensures history { result.history ≡ [] }
+        ensures full { (result.fault ≡ Some JournalFault.Full) ↔ 2 ^ 62 < count }
+        ensures well { IsNone result.fault ↔ count ≤ 2 ^ 62 }
     {
         Desk {
             storage: Some(storage),
@@ -224,7 +229,9 @@ impl<J: Naming, S: Storage + Drop> Desk<J, S> {
     }
 
     /// Why nothing more is asked of the journal, if that is so.
-    pub fn fault(&self) -> Option<JournalFault> {
+    pub fn fault(&self) -> Option<JournalFault>
+        ensures { result ≡ self.now.fault }
+    {
         self.fault
     }
 
@@ -233,16 +240,28 @@ impl<J: Naming, S: Storage + Drop> Desk<J, S> {
         ensures put { IfOk result (λ t. IsAt t.place bytes.items (log_in J.before t.history)) }
         ensures seen { IfOk result (λ t. t.history ≡ self.new.history) }
         ensures later { IsPrefix self.old.history self.new.history }
+        ensures ok { OnOk result (self.new ≡ record self.old { batch = self.old.batch ++ bytes.items ∷ []; history = self.new.history }) }
+
+        // Once there was a fault, it is the answer.
+        ensures faulty { IfSome self.old.fault (λ fault. IsErrOf result fault) }
+        ensures disk { IsErrOf result JournalFault.Disk ↔ (self.old.fault ≡ Some JournalFault.Disk) }
+        ensures full { IsNone self.old.fault → IsFull self.old → IsErrOf result JournalFault.Full }
+        ensures full_only { IsErrOf result JournalFault.Full → (self.old.fault ≡ Some JournalFault.Full)
+            ⊎ IsFull self.old ⊎ (length self.old.history < length self.new.history) }
+
+        // An error leaves all as it was, unless another than this desk added to the history.
+        ensures memory { IsErrOf result JournalFault.Memory → self.new ≡ self.old }
+        ensures err { OnErr result ((self.new ≡ self.old) ⊎ (length self.old.history < length self.new.history)) }
     {
         if let Some(fault) = self.fault {
             return Err(fault);
         }
+        let place = self.given + self.batch.len() as u64;
+        if place >= MOST || self.history.is_full() {
+            return Err(JournalFault::Full);
+        }
         if self.batch.reserve(1).is_err() {
             return Err(JournalFault::Memory);
-        }
-        let place = self.given + self.batch.len() as u64;
-        if place >= MOST {
-            return Err(JournalFault::Full);
         }
         if !self.history.add(&Putting { bytes: &bytes }) {
             self.fault = Some(JournalFault::Full);
@@ -255,10 +274,12 @@ impl<J: Naming, S: Storage + Drop> Desk<J, S> {
         })
     }
 
-    /// The storage, with what it wasn't given yet. None: another thread has it, or all that was put counts.
+    /// The storage, with what it wasn't given yet. None: another thread has it, or all that was put counts, or there was a fault.
     pub fn take(&mut self, alloc: Global) -> Option<Job<J, S>>
         ensures same { self.new.history ≡ self.old.history }
         ensures seen { IfSome result (λ job. job.history ≡ self.old.history) }
+        ensures none { IsNone result ↔ IsIdle self.old }
+        ensures fault { self.new.fault ≡ self.old.fault }
     {
         if self.fault.is_some() || self.batch.is_empty() && self.given == self.settled {
             return None;
@@ -276,8 +297,9 @@ impl<J: Naming, S: Storage + Drop> Desk<J, S> {
     }
 
     // Whether this is what a thread took last.
+    #[tactic(auto, using(crate::proofs::Fronts::prefix_length))]
     fn is_ours(&self, done: &Done<J, S>) -> bool
-        ensures { result ≡ true → ComesBack self.now done.now }
+        ensures { IsTrue result ↔ ComesBack self.now done.now }
     {
         self.fault.is_none()
             && done.given == self.given
@@ -288,9 +310,19 @@ impl<J: Naming, S: Storage + Drop> Desk<J, S> {
     /// The storage comes back.
     pub fn give_back(&mut self, done: Done<J, S>)
         ensures later { IsPrefix self.old.history self.new.history }
+        ensures back { IsNone self.new.fault → self.new ≡ record self.old {
+          storage = Some done.storage;
+          settled = done.settled;
+          history = self.new.history;
+        } }
+        ensures faulty { IsSome self.old.fault → self.new.fault ≡ self.old.fault }
+        ensures disk { self.new.fault ≡ Some JournalFault.Disk →
+            (self.old.fault ≡ Some JournalFault.Disk) ⊎ (ComesBack self.old done → ⊥) }
+        ensures full { self.new.fault ≡ Some JournalFault.Full → (self.old.fault ≡ Some JournalFault.Full)
+            ⊎ (2 ^ 62 ≤ length self.old.history) ⊎ (length self.old.history < length self.new.history) }
     {
         if !self.is_ours(&done) {
-            self.fault = Some(JournalFault::Disk);
+            self.fail(JournalFault::Disk);
             return;
         }
         let Done {
@@ -306,15 +338,20 @@ impl<J: Naming, S: Storage + Drop> Desk<J, S> {
         self.settled = settled;
     }
 
-    /// The storage didn't come back: this is why.
+    /// The storage didn't come back: this is why. Only the first fault is kept.
     pub fn fail(&mut self, fault: JournalFault)
-        ensures same { self.new.history ≡ self.old.history }
+        ensures same { self.new ≡ record self.old { fault = self.new.fault } }
+        ensures first { IsNone self.old.fault → self.new.fault ≡ Some fault }
+        ensures later { IsSome self.old.fault → self.new.fault ≡ self.old.fault }
     {
-        self.fault = Some(fault);
+        if self.fault.is_none() {
+            self.fault = Some(fault);
+        }
     }
 
     /// The receipt of a record, where it is on the disk.
     pub fn receipt(&self, ticket: &Ticket<J>) -> Option<Receipt<J>>
+        ensures none { IsNone result ↔ self.now.settled ≤ ticket.now.place }
         ensures place { IfSome result (λ r. r.place ≡ ticket.now.place) }
         ensures stored { (bytes : List ℕ) → IsAt ticket.now.place bytes (log_in J.before ticket.now.history)
             → IfSome result (λ r. IsStored ticket.now.place bytes (log_in J.before r.history)) }

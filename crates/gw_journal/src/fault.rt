@@ -10,7 +10,7 @@ pub enum JournalFault {
     /// The disk has failed, in this call or in an earlier one. The journal is asked nothing more: open it again.
     #[error("the disk has failed")]
     Disk,
-    /// The journal has 2^62 records.
+    /// The journal has 2^62 records or events, or its log takes no such record: it is empty or too long, or the file is full.
     #[error("the journal has no room")]
     Full,
 }

@@ -1,5 +1,4 @@
 //! A journal that threads share.
-ghost use Rattle.std.specs.Prelude.{◌≡◌, IfOk, ℕ, List};
 ghost use Rattle.gw_journal.specs.Logs.{IsAt, IsStored, log_in};
 
 use crate::book::Naming;

@@ -14,11 +14,13 @@ fn fault_of(fault: LogFault) -> JournalFault {
 
 /// All that it says holds if the disk did what its calls answered.
 impl<D: Disk> Storage for Log<D> {
-    ghost use Rattle.gw_journal.specs.Stored.{Held, LeavesEither};
+    ghost use Rattle.gw_journal.specs.Stored.{Fails, Held, LeavesEither};
 
     ghost stands = { Held D.honest D.seen D.may_leave };
 
     ghost leaves = { λ old new these those. D.honest new.segment.disk → LeavesEither D.moment D.left_since old new these those };
+
+    ghost fails = { λ old new fault. Fails old new };
 
     fn put(&mut self, batch: &[Vec<u8>]) -> Result<(), JournalFault> {
         match Log::put(self, batch) {

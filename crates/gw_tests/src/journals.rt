@@ -6,7 +6,7 @@ use std::alloc::Global;
 use std::marker::Brand;
 use std::process::Abort;
 use std::sync::Wait;
-use std::test::*;
+use std::test::Fail;
 use std::thread::{Threads, join};
 
 /// What was put, how many rows count, and how often something was brought to the disk.
@@ -23,6 +23,8 @@ impl Storage for Rows {
     ghost stands = { λ s these those. ⊤ };
 
     ghost leaves = { λ old new these those. ⊤ };
+
+    ghost fails = { λ old new fault. ⊤ };
 
     fn put(&mut self, batch: &[Vec<u8>]) -> Result<(), JournalFault> {
         self.settle()?;

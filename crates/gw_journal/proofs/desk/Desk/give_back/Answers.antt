@@ -1,13 +1,12 @@
 use Rattle.std.proofs.Common.{◌≡◌, ◌++◌, ◌∷◌, [], refl, sym, subst}
-use Rattle.std.specs.Prelude.{is_some}
 use Rattle.std.proofs.lemmas.Bool.{false≢true}
 use Rattle.gw_journal.specs.Logs.{ComesBack, DeskState, IsDone, JobState, log_in, records_of}
 use Rattle.gw_journal.specs.declared.event.Event.TheVariants.{Synced}
 use Rattle.gw_journal.proofs.Logging.{true_back, synced_more, synced_now}
 use Rattle.gw_journal.proofs.desk.Desk.give_back.Goals as goal
 
-pub invariant_of-self-then-not-add : goal.invariant_of-self-then-not-add
-invariant_of-self-then-not-add g c = (
+pub invariant_of-self : goal.invariant_of-self
+invariant_of-self g c = (
   (λ broken. absurd (false≢true (sym broken))),
   synced_more g.J.Naming.before c.self.inside.history c.add.new.self c.self.inside.settled c.add.ensures.later c.self.invariant.1,
 )
@@ -29,9 +28,9 @@ invariant_of-self-2 g c =
       given = desk.given;
       settled = desk.settled;
       history = desk.history;
-      fault = is_some desk.fault;
+      fault = desk.fault;
     } in
-    let back : ComesBack here taken = subst (λ d. ComesBack d taken) (sym c.self.view_is) (subst (λ j. ComesBack c.args.self.now j) (sym c.done.view_is) (c.if-not-is_ours.ensures refl)) in
+    let back : ComesBack here taken = subst (λ d. ComesBack d taken) (sym c.self.view_is) (subst (λ j. ComesBack c.args.self.now j) (sym c.done.view_is) (c.if-not-is_ours.ensures.0 refl)) in
     let is : c.add.new.self ≡ desk.history ++ Synced done.settled ∷ [] = c.if-not-add.ensures.added refl in
     let all = subst (λ n. IsDone g.S.Storage.stands (record { storage = done.storage; batch = []; given = n; settled = done.settled; history = done.front })
     (log_in g.J.Naming.before done.front)) back.given c.done.invariant in (

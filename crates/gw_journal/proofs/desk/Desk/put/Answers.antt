@@ -17,7 +17,7 @@ invariant_of-self-2 g c =
     let is : c.add.new.self ≡ old ++ Put c.args.bytes.items ∷ [] = c.if-not-add.ensures.added refl ∙ ap (λ b. old ++ Put b ∷ []) c.deref.ensures.value in
     let more = records_more c.self.inside.batch.items c.reserve.new.self.items c.push_reserved.new.self.items c.args.bytes c.reserve.ensures.items c.push_reserved.ensures.items in
     let room : c.self.inside.given + length (records_of c.self.inside.batch.items) < 2 ^ 62 =
-    omega (arith, c.if-place-ge-MOST.false, c.len.ensures, c.reserve.new.self.ok, ap length c.reserve.ensures.items, records_size c.self.inside.batch.items) in (
+    omega (arith, c.if-place-ge-MOST.false, c.len.ensures, c.self.inside.batch.ok, records_size c.self.inside.batch.items) in (
       (λ ok. true_put g.S.Storage.stands g.J.Naming.before c.self.inside.storage (records_of c.self.inside.batch.items)
           (records_of c.push_reserved.new.self.items) c.self.inside.given c.self.inside.settled old c.add.new.self c.args.bytes.items is more room (c.self.invariant.0 ok)),
       synced_more g.J.Naming.before old c.add.new.self c.self.inside.settled c.add.ensures.later c.self.invariant.1,
@@ -28,7 +28,7 @@ returns-clause-put g c =
     let old = c.self.inside.history in
     let is : c.add.new.self ≡ old ++ Put c.args.bytes.items ∷ [] = c.if-not-add.ensures.added refl ∙ ap (λ b. old ++ Put b ∷ []) c.deref.ensures.value in
     let count : c.len.result ≡ length (records_of c.self.inside.batch.items) =
-    omega (arith, c.len.ensures, c.reserve.new.self.ok, ap length c.reserve.ensures.items, records_size c.self.inside.batch.items) in
+    omega (arith, c.len.ensures, c.self.inside.batch.ok, records_size c.self.inside.batch.items) in
     subst (λ h. IsAt (c.self.inside.given + c.len.result) c.args.bytes.items (log_in g.J.Naming.before h)) (sym (c.again.ensures ∙ c.front.ensures))
     (put_at g.S.Storage.stands g.J.Naming.before c.self.inside.storage (records_of c.self.inside.batch.items) c.self.inside.given c.self.inside.settled
     (c.self.inside.given + c.len.result) old c.add.new.self c.args.bytes.items is (c.self.invariant.0 (search rules)) (ap (λ n. c.self.inside.given + n) count))
