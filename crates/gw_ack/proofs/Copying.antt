@@ -1,6 +1,6 @@
 -- What a header copies of a segment is its repetitions as they are written.
-use Rattle.std.proofs.Common.{◌≡◌, ◌≢◌, ℕ, zero, suc, ◌+◌, ◌<◌, ◌≤◌, List, [], ◌∷◌, ◌++◌, length, map, take, drop, Some, refl, sym, ap, subst, ◌∙◌, append_assoc, append-nil, arith}
-use Rattle.std.proofs.lemmas.List.{drop_all, drop_more, length-append}
+use Rattle.std.proofs.Common.{◌≡◌, ℕ, zero, suc, ◌+◌, ◌<◌, ◌≤◌, List, [], ◌∷◌, ◌++◌, length, map, take, drop, Some, refl, sym, ap, subst, ◌∙◌, append_assoc, append-nil, arith}
+use Rattle.std.proofs.lemmas.List.{drop_more, length-append}
 use Rattle.std.proofs.lemmas.Option.{slice_get_within, get_or_from_slice_get}
 use Rattle.std.specs.Prelude.{T, slice_get}
 use Rattle.std.specs.List.{AllByRecursion}
@@ -9,7 +9,7 @@ use Rattle.gw_er7.specs.declared.place.Place.{Place}
 use Rattle.gw_er7.specs.Entries.{Entry}
 use Rattle.gw_er7.specs.Message.{first_number, numbers}
 use Rattle.gw_er7.specs.View.{Held}
-use Rattle.gw_er7.specs.Written.{strip, those, leaf_text, component_text, repetition_text}
+use Rattle.gw_er7.specs.Written.{those, leaf_text, component_text, repetition_text}
 use Rattle.gw_er7.specs.own.Gaps.{gaps}
 use Rattle.gw_er7.specs.own.Ordered.{IsAtLeast, IsOrdered}
 use Rattle.gw_er7.proofs.Each.{Each-weaker}
@@ -21,7 +21,7 @@ use Rattle.gw_ack.specs.Headers.{first_repetition}
 use Rattle.gw_ack.specs.Rows.{IsKeyed, IsRepetition}
 use Rattle.gw_ack.specs.Seen.{text_in}
 use Rattle.gw_ack.specs.own.Kept.{marks, written_behind, Lies, IsReached}
-use Rattle.gw_ack.proofs.Numbers.{from_below, none_below, strip_same, strip_other}
+use Rattle.gw_ack.proofs.Numbers.{from_below, none_below, strip_other}
 
 -- ---- all of a repetition
 
@@ -80,52 +80,10 @@ all_written es h =
 
 -- ---- text by text
 
-pub other_field : (field : ℕ) (p : Place) (text : List ℕ) (es : List Entry) → p.field ≢ field
-    → first_repetition field ((numbers p, text) ∷ es) ≡ first_repetition field es
-other_field field p text es apart =
-    ap (λ (front : List Entry). those 1 (front ++ those field es)) (strip_other field p.field (p.rep ∷ p.comp ∷ p.sub ∷ []) text apart)
-
-at_field : (field : ℕ) (p : Place) (text : List ℕ) (es : List Entry) → p.field ≡ field
-    → first_repetition field ((numbers p, text) ∷ es) ≡ strip 1 (p.rep ∷ p.comp ∷ p.sub ∷ []) text ++ first_repetition field es
-at_field field p text es is =
-    let key : List ℕ = p.rep ∷ p.comp ∷ p.sub ∷ [] in
-    ap (λ (n : ℕ). those 1 (strip field (n ∷ key) text ++ those field es)) is
-    ∙ ap (λ (front : List Entry). those 1 (front ++ those field es)) (strip_same field key text)
-
-pub other_rep : (field : ℕ) (p : Place) (text : List ℕ) (es : List Entry) → p.field ≡ field → p.rep ≢ 1
-    → first_repetition field ((numbers p, text) ∷ es) ≡ first_repetition field es
-other_rep field p text es is apart =
-    at_field field p text es is ∙ ap (λ (front : List Entry). front ++ first_repetition field es) (strip_other 1 p.rep (p.comp ∷ p.sub ∷ []) text apart)
-
-pub this_rep : (field : ℕ) (p : Place) (text : List ℕ) (es : List Entry) → p.field ≡ field → p.rep ≡ 1
-    → first_repetition field ((numbers p, text) ∷ es) ≡ (p.comp ∷ p.sub ∷ [], text) ∷ first_repetition field es
-this_rep field p text es is one =
-    let key : List ℕ = p.comp ∷ p.sub ∷ [] in
-    at_field field p text es is ∙ ap (λ (n : ℕ). strip 1 (n ∷ key) text ++ first_repetition field es) one
-    ∙ ap (λ (front : List Entry). front ++ first_repetition field es) (strip_same 1 key text)
-
--- a text that is left out, and one that is written
-pub left_out : (key old : List ℕ) (now then : List Entry) → then ≡ now → old ++ written_behind key now ≡ old ++ written_behind key then
-left_out key old now then e = ap (λ (es : List Entry). old ++ written_behind key es) (sym e)
-
-pub put_in : (here there text old mid new : List ℕ) (es then : List Entry) → then ≡ (there, text) ∷ es → mid ≡ old ++ gaps marks here there → new ≡ mid ++ text
-    → new ++ written_behind there es ≡ old ++ written_behind here then
-put_in here there text old mid new es then e m n =
-    ap (λ (l : List ℕ). l ++ written_behind there es) (n ∙ ap (λ (l : List ℕ). l ++ text) m)
-    ∙ append_assoc (old ++ gaps marks here there) text (written_behind there es)
-    ∙ append_assoc old (gaps marks here there) (text ++ written_behind there es)
-    ∙ ap (λ (xs : List Entry). old ++ written_behind here xs) (sym e)
-
 -- how far the copy of a field has come
 pub record IsCopying (es : List Entry) (field i : ℕ) (here old now : List ℕ) : Type 0 where
   pub written : now ++ written_behind here (first_repetition field (drop i es)) ≡ old ++ written_behind (1 ∷ 1 ∷ []) (first_repetition field es)
   pub passed : IsReached (field + 1) es i
-
-pub begun : (es : List Entry) (field from : ℕ) (old : List ℕ) → IsReached field es from → IsCopying es field from (1 ∷ 1 ∷ []) old old
-begun es field from old h = record {
-  written = ap (λ (xs : List Entry). old ++ written_behind (1 ∷ 1 ∷ []) (those 1 xs)) (h field (omega arith));
-  passed = λ k le. h k (omega (arith, le));
-}
 
 next_is : (es : List Entry) (i : ℕ) (e : Entry) → slice_get es i ≡ Some e → drop i es ≡ e ∷ drop (i + 1) es
 next_is es i e is = drop_more es i e (slice_get_within es i e is) ∙ ap (λ (x : Entry). x ∷ drop (i + 1) es) (get_or_from_slice_get es i e e is)
@@ -159,13 +117,6 @@ copied_before es field i p text here old now sorted is lt h =
     let later : T (is_sorted order ((numbers p, text) ∷ drop (i + 1) es)) = subst (λ (xs : List Entry). T (is_sorted order xs)) next (sorted_drop i es sorted) in
     none_left es field i here old now
     (ap (those field) next ∙ none_below field p.field ((numbers p, text) ∷ drop (i + 1) es) lt (omega arith, from_below p.field (p.rep ∷ p.comp ∷ p.sub ∷ []) (drop (i + 1) es) (first _ _ later))) h
-
-pub copied_all : (es : List Entry) (field i : ℕ) (here old now : List ℕ) → length es ≤ i → IsCopying es field i here old now
-    → now ≡ old ++ written_behind (1 ∷ 1 ∷ []) (first_repetition field es)
-copied_all es field i here old now le h = none_left es field i here old now (ap (those field) (drop_all i es le)) h
-
-pub passed_all : (es : List Entry) (field i : ℕ) (here old now : List ℕ) → length es ≤ i → IsCopying es field i here old now → IsReached (field + 1) es (length es)
-passed_all es field i here old now le h k l = ap (those k) (drop_all (length es) es (omega arith) ∙ sym (drop_all i es le)) ∙ h.passed k l
 
 -- ---- texts behind others
 

@@ -7,9 +7,7 @@ use Rattle.gw_er7.specs.Message.{first_number}
 use Rattle.gw_er7.specs.Written.{those, last_number, parts_from, repetition_text, field_text, fields_text, behind_separator, closed_line}
 use Rattle.gw_er7.proofs.Each.{Each-append, Each-weaker}
 use Rattle.gw_er7.proofs.PartByPart.{layer-last}
-use Rattle.gw_ack.specs.declared.receipt.Ack.{Ack}
-use Rattle.gw_ack.specs.declared.receipt.Ack.TheVariants.{AA, AE, AR}
-use Rattle.gw_ack.specs.Answers.{ack_text, component, components, copied, field, or_production, table, msh, msa}
+use Rattle.gw_ack.specs.Answers.{component, components, copied, field, or_production, table, msh}
 use Rattle.gw_ack.specs.Headers.{HeaderValue}
 use Rattle.gw_ack.specs.own.Joined.{parties}
 use Rattle.gw_ack.proofs.Numbers.{none_under, parts_same, strip_same, those-append}
@@ -185,15 +183,3 @@ msh_pieces h stamp arrival event number processing o p₁ p₂ p₃ p₄ p₅ p�
     joined : (o a b c d e f g h i p₁ p₂ p₃ p₄ p₅ p₆ p₇ p₈ p₉ : List ℕ) → p₁ ≡ o ++ a → p₂ ≡ p₁ ++ b → p₃ ≡ p₂ ++ c → p₄ ≡ p₃ ++ d → p₅ ≡ p₄ ++ e → p₆ ≡ p₅ ++ f → p₇ ≡ p₆ ++ g
         → p₈ ≡ p₇ ++ h → p₉ ≡ p₈ ++ i → p₉ ≡ o ++ (a ++ (b ++ (c ++ (d ++ (e ++ (f ++ (g ++ (h ++ i))))))))
     joined o a b c d e f g h i p₁ p₂ p₃ p₄ p₅ p₆ p₇ p₈ p₉ e₁ e₂ e₃ e₄ e₅ e₆ e₇ e₈ e₉ = rw (e₉, e₈, e₇, e₆, e₅, e₄, e₃, e₂, e₁) (simp append_assoc refl)
-
--- ---- MSA
-
-pub msa_line : (ack : Ack) (b : ℕ) (control : List ℕ) → closed_line (codes "MSA") (msa (ack_text ack) (b ∷ control)) ≡ codes "MSA|" ++ (ack_text ack ++ (124 ∷ b ∷ control ++ 13 ∷ []))
-msa_line AA b control = refl
-msa_line AE b control = refl
-msa_line AR b control = refl
-
-pub msa_bare : (ack : Ack) → closed_line (codes "MSA") (msa (ack_text ack) []) ≡ codes "MSA|" ++ (ack_text ack ++ 13 ∷ [])
-msa_bare AA = refl
-msa_bare AE = refl
-msa_bare AR = refl

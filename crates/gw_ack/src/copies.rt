@@ -1,5 +1,5 @@
 //! Copies of a segment's texts, as they are written.
-ghost use Rattle.std.specs.Prelude.{◌≡◌, ◌-◌, ◌+◌, ◌++◌, ◌∷◌, [], replicate, drop, List, IfOk, OnOk};
+ghost use Rattle.std.specs.Prelude.{◌≡◌, ◌-◌, ◌+◌, ◌++◌, ◌∷◌, [], replicate, List, IfOk, OnOk};
 ghost use Rattle.std.specs.FinMap as texts;
 ghost use Rattle.gw_er7.specs.Entries.{Entry};
 ghost use Rattle.gw_er7.specs.Message.{numbers};

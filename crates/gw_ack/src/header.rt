@@ -1,5 +1,5 @@
 //! What an answer takes from the header of the message that it answers.
-ghost use Rattle.std.specs.Prelude.{◌≡◌, IfOk, OnOk};
+ghost use Rattle.std.specs.Prelude.{◌≡◌, IfOk};
 ghost use Rattle.gw_er7.specs.Message.{text_of};
 ghost use Rattle.gw_er7.specs.Written.{repetition_text};
 ghost use Rattle.gw_ack.specs.Answers.{or_production};

@@ -1,5 +1,5 @@
 //! What the other side answered.
-ghost use Rattle.std.specs.Prelude.{◌≡◌, ◌⊎◌, List, Some, Ok, Err};
+ghost use Rattle.std.specs.Prelude.{◌≡◌, List, Some, Ok, Err};
 ghost use Rattle.gw_er7.specs.declared.fault.ReadFault.{ReadFault};
 ghost use Rattle.gw_er7.specs.Faults.{Faulty};
 ghost use Rattle.gw_er7.specs.Message.{SegmentValue, IsMessage};

@@ -1,6 +1,6 @@
 //! Rows of the definitions of settled notes, and of what waits for a receiver.
 ghost use Rattle.std.specs.Prelude.{◌≡◌, ◌-◌, ℕ, List, drop, [], ◌∷◌, ◌++◌, None, Some, true, false};
-ghost use Rattle.std.specs.Prelude.{flat_map, map, length, nat_le, replicate};
+ghost use Rattle.std.specs.Prelude.{flat_map, map, nat_le, replicate};
 ghost use Rattle.std.specs.List.{range_with_len};
 ghost use Rattle.gw_gate.specs.Chapters.{all_entries};
 ghost use Rattle.gw_gate.specs.Journal.{Journal, WasKept, end, from, released, start_after};

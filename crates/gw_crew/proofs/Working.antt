@@ -5,7 +5,7 @@ use Rattle.gw_gate.specs.Journal.{WasTaken, WasKept}
 use Rattle.gw_gate.specs.Parts.{TranslatedSeen}
 use Rattle.gw_gate.specs.Replies.{Puts, ReplySeen, IsKept, IsRepeat, IsStranger, IsFull}
 use Rattle.gw_crew.specs.Notes.{NoteSeen, WasFull, WasIdle, Added, Notes}
-use Rattle.gw_crew.specs.Works.{Rounds, no_round, kept, dropped, waited, Ends, idle, full, full_in_hand, stopped, InHand, job, Worked, Works, Breaks}
+use Rattle.gw_crew.specs.Works.{Rounds, no_round, kept, dropped, waited, Ends, idle, full, full_in_hand, stopped, InHand, job, Worked, Works}
 use Rattle.gw_crew.specs.own.Turns.{Finishes, is_kept, is_dropped, is_full, is_stopped, Turn, keeps, drops, waits, ends, Adds, put_reply}
 use Rattle.gw_stream.specs.declared.counts.Counts.{Counts}
 use Rattle.gw_stream.specs.Counted.{nothing}
@@ -88,9 +88,6 @@ works_so old mid new k s counts was counted turn = record {
   noted = turn.noted;
   counted = counted;
 }
-
-pub breaks_so : (old mid new : List NoteSeen) (k : ℕ) (o : Option (ℕ × ℕ)) → Worked old mid k → Adds (InHand o) mid new → Breaks o old new
-breaks_so old mid new k o was had = record { mid = mid; kept = k; worked = was; last = had.more; in_hand = had.holds; noted = had.noted }
 
 -- fewer results than notes
 rounds_few : (notes : List NoteSeen) (k : ℕ) → Rounds notes k → k + k ≤ length notes

@@ -3,7 +3,7 @@ use gw_ack::Stamp;
 
 /// A clock, which gives the stamp of an answer.
 pub trait Clock {
-    ghost use Rattle.std.specs.Prelude.{◌≡◌, ◌↔◌, ℕ, List};
+    ghost use Rattle.std.specs.Prelude.{◌↔◌, ℕ, List};
 
     /// The stamps that it can give: a fixed clock its own alone, the system's any.
     ghost gives: { Self → List ℕ → Type 0 };

@@ -1,5 +1,5 @@
 //! Swaps of plans.
-ghost use Rattle.std.specs.Prelude.{◌≡◌, IfOk, IfErr, Ok, Err};
+ghost use Rattle.std.specs.Prelude.{◌≡◌, IfOk, IfErr, Ok};
 ghost use Rattle.std.specs.Arc.{arc_value};
 ghost use Rattle.gw_gate.specs.Values.{reply_seen};
 ghost use Rattle.gw_plan.specs.Held.{plan_value};

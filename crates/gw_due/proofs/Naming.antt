@@ -7,12 +7,9 @@ use Rattle.std.proofs.lemmas.Slice.Eq.{bytes_eq-Decides}
 use Rattle.gw_due.specs.Events.{Event, Planned, Accepted, Again, Passed, Named, Margin, Retired}
 use Rattle.gw_due.specs.Due.{is_among, Name}
 use Rattle.gw_due.specs.Lawful.{is_named, agrees}
-use Rattle.gw_due.specs.State.{Receiver, State, receiver_by, receivers_by, plan_place, named, after, nothing, state_of, is_known, name_of}
+use Rattle.gw_due.specs.State.{Receiver, receiver_by, named, is_known, name_of}
 use Rattle.gw_due.specs.State as state
 use Rattle.gw_due.proofs.Telling.{or_false}
-
-abbrev has : ℕ → Name → Bool
-has n name = nat_eq name.number n
 
 abbrev pub has_name : ℕ → List ℕ → Receiver → Bool
 has_name n name r = agrees n name (name_of r)

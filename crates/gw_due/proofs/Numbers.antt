@@ -9,11 +9,6 @@ pub record AreRead (done : List ℕ) (count : ℕ) (rest total : List ℕ) : Typ
   pub enough : 4 * count ≤ length rest
   pub all : done ++ numbers count rest ≡ total
 
-pub at_first : (count : ℕ) (bytes : List ℕ) → 4 * count ≤ length bytes → AreRead [] (count - 0) bytes (numbers count bytes)
-at_first count bytes enough =
-    let e : count - 0 ≡ count = omega arith in
-    record { enough = omega arith; all = ap (λ n. numbers n bytes) e }
-
 pub one_more : (done : List ℕ) (count i : ℕ) (rest total : List ℕ) → i < count → AreRead done (count - i) rest total
     → AreRead (done ++ from_be_bytes w32 (take 4 rest) ∷ []) (count - (i + 1)) (drop 4 rest) total
 unfolding numbers

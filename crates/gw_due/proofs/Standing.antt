@@ -7,7 +7,7 @@ use mathlib.Core.List.{IsPrefix}
 use Rattle.gw_due.specs.Events.{How, Event, Planned, Accepted, Again, Passed, Named, Margin, Retired}
 use Rattle.gw_due.specs.Due.{is_among, due_by, due_from, due, passed_by, passed, refused_by, refused, left}
 use Rattle.gw_due.specs.State as state
-use Rattle.gw_due.specs.State.{Receiver, receiver_by, owed, refusals}
+use Rattle.gw_due.specs.State.{Receiver, owed, refusals}
 use Rattle.gw_due.specs.Says.{SaysOf}
 use Rattle.gw_due.proofs.Growing.{due_append, passed_append, refused_append, drop_front, first_is}
 use Rattle.gw_due.proofs.Covering.{drop_more}

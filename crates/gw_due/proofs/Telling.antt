@@ -9,7 +9,7 @@ use mathlib.Core.List.{IsPrefix}
 use Rattle.gw_due.specs.Events.{How, Taken, Refused, Skipped, Event, Planned, Accepted, Again, Passed, Named, Margin, Retired}
 use Rattle.gw_due.specs.Due.{is_among, due, passed, passed_by, refused_by, refused, due_by, left, Name, names, names_by}
 use Rattle.gw_due.specs.Lawful.{Lawful, no_event, one_more, MayFollow, is_named}
-use Rattle.gw_due.specs.State.{Receiver, State, receiver_by, receivers_by, named, owed, refusals, after, nothing, state_of, is_known, name_of}
+use Rattle.gw_due.specs.State.{Receiver, receiver_by, named, owed, refusals, is_known}
 use Rattle.gw_due.specs.State as state
 use Rattle.gw_due.specs.Says.{SaysOf}
 use Rattle.gw_due.proofs.Growing.{ordered}

@@ -1,7 +1,5 @@
 //! A state as bytes.
 ghost use Rattle.std.specs.Prelude.{◌≡◌, ◌++◌, [], IfOk, OnOk, OnErr, IsErrOf, Some};
-ghost use Rattle.std.specs.List.{AllByRecursion};
-ghost use Rattle.std.specs.Int.{w32, w64, to_be_bytes};
 ghost use Rattle.gw_due.specs.Checkpoint.{checkpoint, eight, perhaps, counts, receiver, receivers, ReceiverFits, ReceiversFit, StateFits};
 ghost use Rattle.gw_due.specs.State as spec;
 ghost use Rattle.gw_due.specs.own.Reading.{Gives};

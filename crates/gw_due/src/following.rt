@@ -1,9 +1,8 @@
 //! What an event changes in what is known of receivers.
-ghost use Rattle.std.specs.Prelude.{◌≡◌, ◌<◌, nat_eq, nat_lt, ◌&&◌, map, OnOk, OnErr, IsTrue, Option, None, Some};
+ghost use Rattle.std.specs.Prelude.{◌≡◌, nat_eq, map, OnOk, OnErr, IsTrue};
 ghost use Rattle.std.specs.List.{position, list_all};
 ghost use Rattle.gw_due.specs.Due.{last_by, margin_by, oldest_by};
 ghost use Rattle.gw_due.specs.State.{receiver_by, receivers_by, named, plan_place};
-ghost use Rattle.gw_due.specs.State as spec;
 ghost use Rattle.gw_due.specs.Views as view;
 ghost use Rattle.gw_due.specs.own.Steps.{PassesBelow, has_room_for_one};
 

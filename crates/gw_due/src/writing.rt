@@ -1,5 +1,5 @@
 //! How a record is written.
-ghost use Rattle.std.specs.Prelude.{◌≡◌, ◌↔◌, ◌++◌, ◌<◌, ◌^◌, [], length, OnOk, OnErr, IsErrOf, IsTrue, List, ℕ};
+ghost use Rattle.std.specs.Prelude.{◌≡◌, ◌↔◌, ◌++◌, ◌<◌, ◌^◌, [], length, OnOk, OnErr, IsErrOf, IsTrue};
 ghost use Rattle.std.specs.Int.{w32, w64, to_be_bytes};
 ghost use Rattle.gw_due.specs.Spelling.{spelled, Fits, EventFits, HowFits, IsShort, AreShort};
 ghost use Rattle.gw_due.specs.Spelling as spelling;

@@ -69,9 +69,6 @@ lies_behind bytes at part value b behind e l = record {
   long = omega (arith, length-append l.before (value ++ b ∷ []), length-append value (b ∷ []), l.long);
 }
 
-pub lies_within : (bytes : List ℕ) (at : ℕ) (part : List ℕ) → Lies bytes at part → at + length part ≤ length bytes
-lies_within bytes at part l = omega (arith, ap length l.is, length-append l.before (part ++ l.after), length-append part l.after, l.long)
-
 lies_text : (bytes : List ℕ) (at : ℕ) (part : List ℕ) → Lies bytes at part → take (length part) (drop at bytes) ≡ part
 lies_text bytes at part l =
     ap (λ (n : ℕ). take (length part) (drop n bytes)) (sym l.long) ∙ ap (λ (x : List ℕ). take (length part) (drop (length l.before) x)) l.is

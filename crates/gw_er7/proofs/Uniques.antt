@@ -34,11 +34,6 @@ Fine [] = ⊥
 Fine (p ∷ []) = Unit {0}
 Fine (p ∷ q ∷ ps) = LastFull (q ∷ ps)
 
-weaker : (r q : ℕ) (x : List ℕ) → q ≤ r → Good r x → Good q x
-weaker r q [] le h = tt
-weaker r q (b ∷ []) le h = λ some. (let more : r ≤ rank b = h some in omega arith)
-weaker r q (a ∷ b ∷ bs) le h = (h.0, weaker r q (b ∷ bs) le h.1)
-
 -- the last part of bytes that don't end at the separator
 full : (s r : ℕ) (b : ℕ) (x : List ℕ) → 0 < rank s → rank s < r → Good r (b ∷ x) → LastFull (slice_split (λ c. c == s) (b ∷ x))
 full s r b [] some lt h =

@@ -1,18 +1,12 @@
 -- Spans of two widths, which say the same.
-use Rattle.std.proofs.Common.{◌≡◌, ℕ, ◌<◌, ◌≤◌, ◌+◌, ◌-◌, take, drop, Bool, List, [], ◌++◌, length, map, sym, ap, subst, ◌∙◌, append-nil, arith, inl, inr}
+use Rattle.std.proofs.Common.{◌≡◌, ℕ, ◌<◌, ◌≤◌, ◌+◌, ◌-◌, take, drop, List, [], ◌++◌, length, map, sym, ap, subst, ◌∙◌, append-nil, arith, inl, inr}
 use Rattle.std.proofs.lemmas.List.{take-append-le, drop-take, length-map, take-map, drop-map}
 use Rattle.std.specs.List.{AllZip}
-use Rattle.std.specs.Ordering.{is_lt}
 use Rattle.gw_er7.specs.declared.spans.TextSpan.{TextSpan}
-use Rattle.gw_er7.specs.Message.{numbers}
 use Rattle.gw_er7.specs.View.{between}
 use Rattle.gw_er7.specs.own.Spans.{all_said, AreAlike, AreOf, AreSortedFrom}
 use Rattle.gw_er7.proofs.Lying.{sorted_from_map}
 use Rattle.gw_er7.proofs.Sames.{zip_maps}
-use Rattle.gw_er7.proofs.Sorted.{order}
-
-abbrev rises : TextSpan → TextSpan → Bool
-rises a b = is_lt (order (numbers a.place) (numbers b.place))
 
 module _ {N : Type 0} (said : N → TextSpan) where
   -- none of the other width

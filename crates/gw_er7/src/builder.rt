@@ -55,7 +55,7 @@ impl Model for Builder {
 impl Builder {
     ghost use Rattle.std.specs.Prelude.{◌≡◌, ◌<◌, ◌++◌, ◌∷◌, [], length, OnOk, OnErr};
     ghost use Rattle.std.specs.FinMap as texts;
-    ghost use Rattle.gw_er7.specs.Message.{SegmentValue, numbers};
+    ghost use Rattle.gw_er7.specs.Message.{numbers};
     ghost use Rattle.gw_er7.specs.Building.{IsBegun, MayPut, with_last};
 
     /// A builder with no segment. It takes no memory.

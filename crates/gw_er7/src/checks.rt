@@ -1,5 +1,5 @@
 //! What is tested of the bytes, the header line and the other lines of a message.
-ghost use Rattle.std.specs.Prelude.{◌≡◌, ◌+◌, ◌≤◌, ◌<◌, ◌==◌, ◌↔◌, IsTrue, false, true, not, length, MatchOption, position};
+ghost use Rattle.std.specs.Prelude.{◌≡◌, ◌≤◌, ◌↔◌, IsTrue, false, true, not, length, MatchOption, position};
 ghost use Rattle.std.specs.List.{list_any};
 ghost use Rattle.gw_er7.specs.Content.{is_allowed, delimiters_of, is_delimiter, are_distinct, are_delimiters, ends_at, is_delimited, is_segment_line};
 ghost use Rattle.gw_er7.specs.Names.{is_header, is_name_byte, is_named, is_name, IsName};

@@ -1,5 +1,5 @@
 //! Which texts are canonical.
-ghost use Rattle.std.specs.Prelude.{◌≡◌, ◌<◌, ◌↔◌, ◌∷◌, IsTrue, length, MatchOption};
+ghost use Rattle.std.specs.Prelude.{◌≡◌, ◌↔◌, ◌∷◌, IsTrue, MatchOption};
 ghost use Rattle.std.specs.List.{list_all};
 ghost use Rattle.gw_er7.specs.Text.{is_canonical, IsCanonical};
 ghost use Rattle.gw_er7.specs.own.Canonical.{is_plain, Follows};

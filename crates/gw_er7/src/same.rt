@@ -10,7 +10,7 @@ use crate::values::Values;
 
 /// A part that can be compared: `same` says what it is to be the same.
 pub trait Part {
-    ghost use Rattle.std.specs.Prelude.{◌≡◌, ◌↔◌, IsTrue};
+    ghost use Rattle.std.specs.Prelude.{◌↔◌, IsTrue};
 
     ghost same: { Self → Self → Type 0 };
 

@@ -7,7 +7,7 @@ ghost use Rattle.std.specs.List.Sorted.{IsPermutation, IsSortedBy};
 ghost use Rattle.std.specs.Ordering.{nat_cmp, is_lt};
 ghost use Rattle.std.specs.Cmp.Lexicographic.{slice_cmp};
 ghost use Rattle.gw_er7.specs.Message.{numbers};
-ghost use Rattle.gw_er7.specs.own.Spans.{IsUpTo, AreSortedFrom, lows, higher, low_of, middle_of, high_of};
+ghost use Rattle.gw_er7.specs.own.Spans.{AreSortedFrom, lows, higher, low_of, middle_of, high_of};
 
 use crate::place::Place;
 use crate::search::compare_places;

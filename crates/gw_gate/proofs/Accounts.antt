@@ -1,9 +1,8 @@
 -- What the books tell of the replies.
-use Rattle.std.proofs.Common.{◌≡◌, ◌≢◌, ◌==◌, ℕ, ◌+◌, ◌-◌, ◌<◌, ◌≤◌, ◌⊎◌, inl, inr, Bool, true, false, if◌then◌else◌, List, Option, None, Some, option_map, slice_get, length, map, refl, sym, ap, subst, ◌∙◌, arith}
-use Rattle.std.specs.Prelude.{find, nat_lt, not, ◌&&◌}
+use Rattle.std.proofs.Common.{◌≡◌, ◌≢◌, ℕ, ◌+◌, ◌<◌, Bool, true, false, if◌then◌else◌, List, Option, None, Some, option_map, slice_get, length, map, refl, sym, ap, ◌∙◌, arith}
+use Rattle.std.specs.Prelude.{not, ◌&&◌}
 use Rattle.std.proofs.lemmas.List.{length-map}
-use Rattle.std.proofs.lemmas.Bool.{cases_lt, false≢true}
-use Rattle.std.proofs.lemmas.Bool.Decides.{nat_tests}
+use Rattle.std.proofs.lemmas.Bool.{false≢true}
 use Rattle.gw_reorder.specs.State.{DeskState}
 use Rattle.gw_reorder.specs.Calls.{status_of, next_of}
 use Rattle.gw_reorder.specs.Runs.{with_its_value}
@@ -15,27 +14,10 @@ use Rattle.gw_gate.specs.Journal.{EntrySeen, Journal, Acceptance, accepted, acce
 use Rattle.gw_gate.specs.Replies.{ReplySeen, Arrives, IsAccepted, IsStale, most, Puts, Reissues, Releases, IsStranger, IsRepeat, IsKept, IsDone, IsIssued, IsOut, IsNothing, is_of, is_kept, out_with, out_of, reply_to}
 use Rattle.gw_gate.specs.own.Books.{given, StandsAt, BooksSeen, Fits, journal_of, put_reply, issue_reply, release_reply}
 pub use Rattle.gw_gate.specs.own.Books.{under}
-use Rattle.gw_gate.specs.Headline.{CountFrom}
 use Rattle.gw_gate.specs.declared.event.Entry.{Entry}
 use Rattle.gw_gate.specs.Entries.{entries_seen}
 use Rattle.gw_gate.proofs.Entering.{as_long}
 use Rattle.gw_gate.proofs.Standing.{status_by, status_stands}
-use Rattle.gw_gate.proofs.Numbering.{n_of}
-use Rattle.gw_gate.proofs.Queue.{found_from, none_below}
-
--- what was accepted under a number, where the numbers go on from the first
-pub acceptance_is : (h : List EntrySeen) (first n : ℕ) → CountFrom first (map n_of (accepted h)) → acceptance h n ≡ option_map (under n) (if nat_lt n first then None else slice_get (map (λ a. a.conforming) (accepted h)) (n - first))
-acceptance_is h first n all = by (cases_lt n first)
-  where
-    by : (n < first) ⊎ (first ≤ n) → acceptance h n ≡ option_map (under n) (if nat_lt n first then None else slice_get (map (λ a. a.conforming) (accepted h)) (n - first))
-    by (inl low) =
-        let is : nat_lt n first ≡ true = grind (arith, nat_tests) in
-        none_below first n (accepted h) all low ∙ sym (ap (λ b. option_map (under n) (if b then None else slice_get (map (λ a. a.conforming) (accepted h)) (n - first))) is)
-    by (inr high) =
-        let is : nat_lt n first ≡ false = grind (arith, nat_tests) in
-        let same : first + (n - first) ≡ n = omega (arith, high) in
-        subst (λ m. find (λ a. a.n == m) (accepted h) ≡ option_map (under m) (slice_get (map (λ a. a.conforming) (accepted h)) (n - first))) same (found_from first (n - first) (accepted h) all)
-        ∙ sym (ap (λ b. option_map (under n) (if b then None else slice_get (map (λ a. a.conforming) (accepted h)) (n - first))) is)
 
 -- what a pair is to the books
 status_pair : (h : List EntrySeen) (n r : ℕ) (s : DeskState TranslatedSeen) → StandsAt h r s → status_of s n ≡ status_by (is_due h n r) (is_kept h n r)

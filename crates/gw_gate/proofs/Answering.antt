@@ -5,8 +5,7 @@ use Rattle.std.proofs.lemmas.Grind.{common_steps}
 use Rattle.std.proofs.lemmas.Option.{none-some}
 use Rattle.gw_gate.specs.declared.event.Entry.{Entry}
 use Rattle.gw_gate.specs.Journal.{EntrySeen, Journal, with_entry, Start}
-use Rattle.gw_gate.specs.Chapters.{is_pending}
-use Rattle.gw_gate.specs.Replies.{EventSeen, Looks, Arrives, Refuses, Swaps, Takes, Puts, Reissues, Releases, Cuts, ReplySeen, IsCurrent, IsPending, IsClosed, IsFull, reply_to, added, most, limited, reply, with_added, closed_by, or_next, takes_memory, Refused, noted, Noted}
+use Rattle.gw_gate.specs.Replies.{EventSeen, Looks, Arrives, Refuses, Swaps, Takes, Puts, Reissues, Releases, Cuts, ReplySeen, IsCurrent, IsClosed, IsFull, reply_to, added, most, limited, reply, with_added, closed_by, or_next, takes_memory, Refused, noted, Noted}
 use Rattle.gw_gate.specs.Entries.{entry_seen, entries_seen}
 use Rattle.gw_gate.specs.own.Books.{journal_of}
 use Rattle.gw_gate.proofs.Entering.{entered, as_long}
@@ -51,13 +50,6 @@ plain takes j event given row none stays =
     let r = open_reply j event given row none in
     let o : added event (reply j event) ≡ None = ap (added event) r ∙ none in
     record { replied = record { reply_is = sym r; new_is = sym (ap (or_next (with_added j (added event (reply j event)))) (ap closed_by r ∙ stays) ∙ ap (with_added j) o) }; note_is = note_none takes ∙ ap (noted takes) (sym o) }
-
-closed_reply : (j : Journal) → is_pending j ≡ false → reply j Cuts ≡ IsClosed j
-closed_reply j e = open_reply j Cuts (IsClosed j) (ap (λ b. if b then IsPending else IsClosed j) e) refl
-
--- the same, where memory is wanting
-pub cut_back : (j new : Journal) → is_pending j ≡ false → new ≡ j → Refused j Cuts Cuts new
-cut_back j new e is = record { back_is = refl; new_is = is; short = subst (λ g. IsTrue (takes_memory Cuts g)) (sym (closed_reply j e)) refl }
 
 no_entry : (event : EventSeen) (chapter : Journal) → added event (IsClosed chapter) ≡ None
 no_entry Looks chapter = refl

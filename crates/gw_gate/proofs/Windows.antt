@@ -1,5 +1,5 @@
 -- Desks seen without where their values lie.
-use Rattle.std.proofs.Common.{◌≡◌, ◌==◌, ℕ, zero, suc, ◌-◌, ◌<◌, ◌≤◌, nat_lt, true, false, if◌then◌else◌, Bool, List, [], ◌∷◌, ◌++◌, length, map, get_or, slice_get, slice_set, Option, None, Some, option_map, ◌⊎◌, inl, inr, refl, sym, ap, ◌∙◌, arith}
+use Rattle.std.proofs.Common.{◌≡◌, ◌==◌, ℕ, zero, suc, ◌-◌, ◌<◌, ◌≤◌, nat_lt, true, false, if◌then◌else◌, Bool, List, [], ◌∷◌, length, map, get_or, slice_get, slice_set, Option, None, Some, option_map, ◌⊎◌, inl, inr, refl, sym, ap, ◌∙◌, arith}
 use Rattle.std.proofs.lemmas.Grind.{common_steps}
 use Rattle.std.proofs.lemmas.Option.{slice_get-map, gets}
 use Rattle.std.specs.declared.alloc.Global.{Global}
@@ -14,7 +14,7 @@ use Rattle.std.specs.List.{list_any}
 use Rattle.gw_reorder.proofs.Places.{equal_numbers}
 use Rattle.gw_gate.specs.Parts.{TranslatedSeen}
 use Rattle.gw_gate.specs.Seen.{Translated}
-use Rattle.gw_gate.specs.own.Desks.{Held, value_seen, desk_seen, desk_at, IsRoomier}
+use Rattle.gw_gate.specs.own.Desks.{Held, value_seen, desk_seen, desk_at}
 
 abbrev slot_seen : Option (Arc Translated Global) → Option TranslatedSeen
 slot_seen o = option_map value_seen o
@@ -59,23 +59,8 @@ at_none ds r past = let e : get_or ds r nothing_due ≡ nothing_due = grind (ari
 pub set_at : (ds : List Held) (r : ℕ) (s : Held) → r < length ds → desk_at (slice_set ds r s) r ≡ desk_seen s
 set_at ds r s within = let e : get_or (slice_set ds r s) r nothing_due ≡ s = grind (arith, common_steps, gets) in ap desk_seen e
 
-pub pushed : (ds : List Held) (q : ℕ) → desk_at (ds ++ nothing_due ∷ []) q ≡ desk_at ds q
-pushed [] zero = refl
-pushed [] (suc q) = refl
-pushed (d ∷ ds) zero = refl
-pushed (d ∷ ds) (suc q) = pushed ds q
-
 pub same_is : (s t : DeskState TranslatedSeen) → t ≡ s → SameButRoom s t
 same_is s t e = record { due = ap (λ x. x.due) e; released = ap (λ x. x.released) e; kept = ap (λ x. x.kept) e }
-
-pub no_less : (s t : DeskState TranslatedSeen) → t ≡ s → IsRoomier s t
-no_less s t e = record { same = same_is s t e; room = let r = ap (λ x. x.room) e in omega (arith, r) }
-
-pub roomier : (s t u : DeskState TranslatedSeen) → IsRoomier s t → IsRoomier t u → IsRoomier s u
-roomier s t u a b = record {
-  same = record { due = b.same.due ∙ a.same.due; released = b.same.released ∙ a.same.released; kept = b.same.kept ∙ a.same.kept };
-  room = let p = a.room in let q = b.room in omega arith;
-}
 
 -- a number waits only at a desk that is there
 pub inside : (ds : List Held) (r n : ℕ) → status_of (desk_at ds r) n ≡ Waiting → r < length ds

@@ -1,11 +1,11 @@
 //! A journal with indexes of it, so that a step need not read the journal.
-ghost use Rattle.std.specs.Prelude.{◌≡◌, ◌+◌, ◌++◌, ◌≤◌, OnOk, vec_len, vec_capacity, ◌<◌, ◌≢◌, ℕ, Bool, true, false, nat_lt, length, map, slice_get, Ok, Err, Some, None, []};
+ghost use Rattle.std.specs.Prelude.{◌≡◌, ◌+◌, ◌++◌, ◌≤◌, OnOk, vec_len, vec_capacity, ◌<◌, Bool, true, nat_lt, length, map};
 ghost use Rattle.std.specs.Option.{option_map};
 ghost use Rattle.std.specs.Arc.{arc_value};
 ghost use Rattle.std.specs.VecDeque.{deque_len, deque_capacity};
 ghost use Rattle.gw_gate.specs.Parts.{is_under};
 ghost use Rattle.gw_gate.specs.Seen.{plan_seen, conforming_seen, translated_seen};
-ghost use Rattle.gw_gate.specs.Journal.{Journal, acceptance, current, end, from, issued, jobs, pair};
+ghost use Rattle.gw_gate.specs.Journal.{acceptance, current, end, from, issued, jobs, pair};
 ghost use Rattle.gw_gate.specs.Chapters.{CanStart, is_pending, most_in_all, some_await};
 ghost use Rattle.gw_gate.specs.own.Cutting.{Closes};
 ghost use Rattle.gw_gate.specs.Headline.{IsTranslated};

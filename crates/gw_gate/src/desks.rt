@@ -1,5 +1,5 @@
 //! The delivery queues (desks) of a gate, by the receivers' numbers.
-ghost use Rattle.std.specs.Prelude.{◌≡◌, ◌≢◌, ℕ, ◌<◌, ◌≤◌, nat_lt, length, option_map, OnOk, All};
+ghost use Rattle.std.specs.Prelude.{◌≡◌, ◌≢◌, ℕ, ◌<◌, nat_lt, length, option_map, OnOk, All};
 ghost use Rattle.gw_reorder.specs.State.{SameButRoom, nothing_due, with_due};
 ghost use Rattle.gw_reorder.specs.Calls.{status_of, after_holding, next_of};
 ghost use Rattle.gw_reorder.specs.declared.desk.Status.TheVariants as status;

@@ -1,5 +1,5 @@
 //! The gate: a journal, and the one step by which it grows.
-ghost use Rattle.std.specs.Prelude.{◌≡◌, ℕ, [], ◌∷◌, map, true, IfOk, IfErr};
+ghost use Rattle.std.specs.Prelude.{◌≡◌, ℕ, true, IfOk, IfErr};
 ghost use Rattle.std.specs.Arc.{arc_value};
 ghost use Rattle.gw_gate.specs.Seen.{plan_seen};
 ghost use Rattle.gw_gate.specs.Journal.{opening, from, end};

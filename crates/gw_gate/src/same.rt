@@ -1,6 +1,5 @@
 //! Equality of entries.
 ghost use Rattle.std.specs.Prelude.{◌≡◌};
-ghost use Rattle.std.specs.Arc.{arc_value};
 ghost use Rattle.gw_gate.specs.Seen.{plan_seen, conforming_seen, translated_seen};
 ghost use Rattle.gw_gate.specs.Same.{is_accepted, is_refused, is_swapped, is_taken, is_kept, is_issued, is_out, same_entry};
 ghost use Rattle.gw_gate.specs.Entries.{entry_seen};

@@ -68,9 +68,6 @@ module _ (tables : List TableValue) (part : Part) (os : List OccValue) where
       }
 
   module _ (from : OccValue) (child : ℕ) (later : List ℕ) (k : ℕ) (o : OccValue) (shows : occurrence_at from.tree child k ≡ Some (occurrence_of o)) (old now : List SegmentValue) (walked : List OccValue) (d : IsBelowDone from child later k old now walked) where
-    all : List Occurrence
-    all = flat_map (below later) (children (occurrence from) child)
-
     next : left from child later k ≡ below later (occurrence o) ++ left from child later (k + 1)
     next = ap (flat_map (below later)) (drop_level from.tree child k o shows)
 

@@ -1,5 +1,5 @@
 -- The text of a place is as the shapes of its leaves say.
-use Rattle.std.proofs.Common.{◌≡◌, ℕ, ◌<◌, ◌⊎◌, inl, inr, Bool, true, false, List, [], ◌∷◌, refl, sym, ap, ◌∙◌, subst, length}
+use Rattle.std.proofs.Common.{◌≡◌, ℕ, ◌⊎◌, inl, inr, Bool, true, false, List, [], ◌∷◌, refl, sym, ap, ◌∙◌, subst}
 use Rattle.std.specs.Prelude.{◌&&◌, not, flat_map}
 use Rattle.std.specs.List.{AllByRecursion}
 use Rattle.gw_profile.specs.Among.{Among}
@@ -14,7 +14,7 @@ use Rattle.gw_leaves.specs.Components.{line_in, table_values, leaf_failures, oth
 use Rattle.gw_resolve.specs.Failures.{Mark}
 use Rattle.gw_resolve.specs.Resolved.{Leaf, const, copied, looked_up, dated, Alternative}
 use Rattle.gw_resolve.specs.Lawful.{LawfulLeaf}
-use Rattle.gw_interp.specs.Meaning.{Walked, LeafMeans, FirstText}
+use Rattle.gw_interp.specs.Meaning.{Walked, FirstText}
 use Rattle.gw_interp.proofs.Walks.{IsWalked}
 use Rattle.gw_interp.proofs.Lists.{none_fails, both_empty}
 use Rattle.gw_interp.proofs.Shaped.{IsShaped, IsFit, fit_of, fit_values, text_there}

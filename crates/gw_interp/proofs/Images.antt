@@ -1,5 +1,5 @@
 -- Each text that a map makes may stand at its place.
-use Rattle.std.proofs.Common.{◌≡◌, ℕ, zero, suc, ◌<◌, ◌≤◌, ◌⊎◌, inl, inr, Bool, true, false, List, [], ◌∷◌, Option, Some, None, refl, sym, ap, subst, arith, length}
+use Rattle.std.proofs.Common.{◌≡◌, ℕ, zero, suc, ◌<◌, ◌≤◌, inl, inr, Bool, true, false, List, [], ◌∷◌, Option, Some, None, refl, sym, ap, subst, arith, length}
 use Rattle.std.proofs.lemmas.Bool.Decides.{nat_tests}
 use Rattle.std.specs.Prelude.{◌==◌, ◌&&◌, nat_le, take, unwrap_or, if◌then◌else◌}
 use Rattle.std.specs.List.{AllByRecursion, list_all}
@@ -24,7 +24,7 @@ use Rattle.gw_resolve.specs.Places.{Place}
 use Rattle.gw_resolve.specs.Resolved.{Source, of_field, of_current, Leaf, const, copied, looked_up, dated, Alternative, At, alternatives, leaf_at, Making, copy, first, repeat, build, Rule, rule_of}
 use Rattle.gw_resolve.specs.Lawful.{LawfulSource, LawfulLeaf, LawfulAt, LawfulLeaves, LawfulMaking, LawfulRule, LawfulRules}
 use Rattle.gw_interp.specs.Occurrences.{Occurrence, a_segment, nodes, at_place, texts_of_first, texts_at}
-use Rattle.gw_interp.specs.Meaning.{InFirst, InFirstOf, IsChosen, InNth, Walked, walking, SourceMeans, is_asked, starts_with, longest, date_lengths, first_digits, LeafMeans, FirstText, AtMeans, Where, MakingMeans, RuleMeans, IsImage}
+use Rattle.gw_interp.specs.Meaning.{InFirst, InFirstOf, IsChosen, InNth, Walked, walking, SourceMeans, is_asked, starts_with, longest, date_lengths, first_digits, LeafMeans, FirstText, AtMeans, Where, MakingMeans, RuleMeans}
 use Rattle.gw_interp.proofs.Lists.{found_test, found_all}
 use Rattle.gw_interp.proofs.Shaped.{text_there}
 use Rattle.gw_interp.proofs.Leaves.{given_value, LooksUp, of_none, of_null, of_value, looks_up}
@@ -230,14 +230,3 @@ module _ (w : Walked) (places : (place : Place) → AreEntries 1 (texts_at w.mes
           let is : LawfulRule name rule = found_all (λ (q : Rule). q.field == f) (LawfulRule name) rules rule e lawful.each in
           let field : rule.field ≡ f = (Decides-eqb rule.field f).0 (found_test (λ (q : Rule). q.field == f) rules rule e) in
           subst (λ n. IsEntry (first_field name) (n ∷ r ∷ c ∷ k ∷ [], text)) field (rule_entry name rule is r c k text means lt)
-
-  pub image_entries : (name : List ℕ) (rules : List Rule) → LawfulRules name rules → (seg : SegmentValue) → IsImage w name rules seg → AreEntries (first_field name) seg.at
-  image_entries name rules lawful seg image f r c k lt = rules_entry name rules lawful f r c k (text_of seg.at f r c k) (image.texts f r c k) lt
-
-  -- and is canonical, or empty
-  pub image_canonical : (name : List ℕ) (rules : List Rule) → LawfulRules name rules → (seg : SegmentValue) → IsImage w name rules seg → (f r c k : ℕ) → (text_of seg.at f r c k ≡ []) ⊎ IsCanonical (text_of seg.at f r c k)
-  image_canonical name rules lawful seg image f r c k = by (text_of seg.at f r c k) (image_entries name rules lawful seg image f r c k)
-    where
-      by : (text : List ℕ) → (0 < length text → IsEntry (first_field name) (f ∷ r ∷ c ∷ k ∷ [], text)) → (text ≡ []) ⊎ IsCanonical text
-      by [] e = inl refl
-      by (b ∷ text) e = inr (e (omega arith)).text

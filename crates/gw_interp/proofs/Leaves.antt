@@ -1,11 +1,10 @@
 -- The text of a leaf is as its shape says, and no leaf is a fault.
 use Rattle.std.proofs.Common.{◌≡◌, ℕ, zero, suc, ◌≤◌, ◌⊎◌, inl, inr, Bool, true, false, List, [], ◌∷◌, map, length, Option, Some, None, refl, sym, ap, ◌∙◌, subst, arith, IfSome}
 use Rattle.std.specs.Prelude.{◌&&◌, ◌||◌, not, nat_le, take, filter_map, option_to_list, bytes_eq, if◌then◌else◌}
-use Rattle.std.specs.List.{AllByRecursion, cons_option, list_all}
+use Rattle.std.specs.List.{AllByRecursion, cons_option}
 use Rattle.std.proofs.lemmas.List.{length-take-le}
 use Rattle.gw_er7.specs.Message.{text_of}
 use Rattle.gw_er7.specs.Presence.{RepAt}
-use Rattle.gw_lines.specs.Spelled.{is_digit}
 use Rattle.gw_lines.specs.Values.{is_value}
 use Rattle.gw_profile.specs.Among.{Among}
 use Rattle.gw_profile.specs.Shapes.{FieldValue}

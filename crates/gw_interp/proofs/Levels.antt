@@ -26,7 +26,7 @@ use Rattle.gw_interp.specs.own.Sourced.{is_met}
 use Rattle.gw_interp.specs.own.Parts.{names_so, MaySo, GivesSo, items_names, MayItems, ItemsGive}
 use Rattle.gw_interp.proofs.Naming.{given_names}
 use Rattle.gw_interp.proofs.Within.{names_chosen, may_chosen, each_chosen}
-use Rattle.gw_interp.proofs.Giving.{IsPartDone, none_done, more_done, all_done, begins_next, next_drop}
+use Rattle.gw_interp.proofs.Giving.{IsPartDone, more_done, all_done, begins_next, next_drop}
 
 pub adds_as : (P Q : List SegmentValue → Type 0) (old new : List SegmentValue) → ((list : List SegmentValue) → P list → Q list) → Adds P old new → Adds Q old new
 adds_as P Q old new so a = record { list = a.list; joined = a.joined; holds = so a.list a.holds }
@@ -69,9 +69,6 @@ module _ (m : List SegmentValue) (os : List Occurrence) (target : Forest) (table
   pub record IsLevelDone (is : List Item) (n : ℕ) (old now : List SegmentValue) : Type 0 where
     pub done : IsPartDone (Gives is) (Gives (drop n is)) (names_at is) (names_at (drop n is)) old now
     pub may : MayGive m os target (all_items tables (drop n is))
-
-  pub none_level : (is : List Item) (old : List SegmentValue) → IsBegun old → MayGive m os target (all_items tables is) → IsLevelDone is 0 old old
-  none_level is old lawful may = record { done = none_done (Gives is) (names_at is) old lawful; may = may }
 
   next_items : (is : List Item) (n : ℕ) (i : Item) → n < length is → i ≡ get_or is n i → all_items tables (drop n is) ≡ with_item tables i (all_items tables (drop (n + 1) is))
   next_items is n i h e = ap (all_items tables) (next_drop is n i h e)
@@ -170,9 +167,6 @@ pub record IsItemsDone (nodes : List Node) (tables : List TableValue) (is : List
   pub level : IsLevelDone (message_of os) (scope os) (forest nodes) tables is n old now
 
 module _ (nodes : List Node) (tables : List TableValue) (is : List Item) (os : List OccValue) where
-  pub none_item : (old : List SegmentValue) → IsBegun old → MayItems nodes (all_items tables is) os → IsItemsDone nodes tables is os 0 old old os
-  none_item old lawful may = record { kept = refl; level = none_level (message_of os) (scope os) (forest nodes) tables is old lawful may }
-
   module _ (n : ℕ) (i : Item) (old now : List SegmentValue) (walked : List OccValue) (h : n < length is) (e : i ≡ get_or is n i) (d : IsItemsDone nodes tables is os n old now walked) where
     pub next_begins : MayBegin old (items_names nodes (all_items tables is) os) → MayBegin now (items_names nodes (with_item tables i no_items) walked)
     next_begins may =

@@ -11,7 +11,7 @@ use Rattle.gw_profile.specs.Deterministic.{AtMost}
 use Rattle.gw_validate.specs.Trees.{Tree, leaf, segments, groups, Trees, no_trees, trees, count_of}
 use Rattle.gw_resolve.specs.Intervals.{Interval, of_card, multiply, product}
 use Rattle.gw_resolve.specs.Places as elements
-use Rattle.gw_resolve.specs.Places.{Element, nodes_of, child, Place, Found, times, node_found, found_below, found_in, found}
+use Rattle.gw_resolve.specs.Places.{Element, child, Place, Found, times, node_found, found_below, found_in, found}
 use Rattle.gw_interp.specs.Occurrences.{Occurrence, a_segment, nodes, list_of, level_at, below, in_scope, at_place}
 use Rattle.gw_interp.proofs.Walks.{IsSegmentOf, IsLevel, AreLevels, IsOccurrence, InScope}
 

@@ -9,7 +9,7 @@ use Rattle.gw_profile.specs.declared.shape.Usage.{Usage}
 use Rattle.gw_profile.specs.declared.shape.Usage.TheVariants.{R, RE, O, X}
 use Rattle.gw_profile.specs.Shapes.{FieldValue, ProfileValue}
 use Rattle.gw_profile.specs.WellFormed.{LawfulField}
-use Rattle.gw_profile.proofs.Facts.{tells, no_clash, le_is}
+use Rattle.gw_profile.proofs.Facts.{le_is}
 use Rattle.gw_profile.proofs.Facts as facts
 use Rattle.gw_profile.specs.Lengths.{len_count}
 use Rattle.gw_validate.specs.Breaches.{is_required, is_forbidden, is_null, FieldBreach, too_few, field_forbidden, Meets}
@@ -18,7 +18,7 @@ use Rattle.gw_resolve.specs.Intervals.{is_sure, is_never}
 use Rattle.gw_resolve.specs.Places.{Known, known}
 use Rattle.gw_resolve.specs.Resolved.{Source, of_field, of_current}
 use Rattle.gw_leaves.specs.Leaves as leaves
-use Rattle.gw_leaves.specs.Leaves.{Shape, IsOf, Sources, is_always, is_absent, by_usage, comp_presence, sub_usage, sub_presence, rep_presence, field_presence, sub_values, at_field, source_shape}
+use Rattle.gw_leaves.specs.Leaves.{IsOf, Sources, is_always, is_absent, by_usage, comp_presence, sub_presence, rep_presence, field_presence, sub_values, source_shape}
 use Rattle.gw_profile.specs.Numbered.{field_of, comp_of, sub_of}
 use Rattle.gw_interp.specs.Occurrences.{texts_at}
 use Rattle.gw_interp.specs.Meaning.{InFirst, Walked, SourceMeans}

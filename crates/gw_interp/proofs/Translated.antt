@@ -66,9 +66,6 @@ module _ (c : CheckedValue) (is : IsChecked c) (lawful : Lawful (map_value c.map
         let all : new ≡ a.list = a.joined ∙ ap (λ o. o ++ a.list) none in
         subst (Means target (resolved_map c) m t) (sym all) (as_meant (λ n os f i. Give n os f i a.list) a.holds)
 
-    pub means_made : (old new : List SegmentValue) → old ≡ [] → Adds (Give (message_of walked) (scope walked) nodes items) old new → Means target (resolved_map c) m t new
-    means_made old new none a = meant old new none a
-
     pub some_made : (old new : List SegmentValue) → old ≡ [] → Adds (Give (message_of walked) (scope walked) nodes items) old new → 0 < length new
     some_made old new none a =
         let some = some_names source target (resolved_map c) allows m t fits tree_is in

@@ -1,5 +1,5 @@
 //! Copies fields of the source to fields of the last segment.
-ghost use Rattle.std.specs.Prelude.{◌≡◌, OnOk};
+ghost use Rattle.std.specs.Prelude.{OnOk};
 ghost use Rattle.gw_interp.specs.own.Making.{MayCopyRep, IsRepCopied, Copies, MayMakeField, IsFieldMade};
 
 use crate::putting::put_text;

@@ -1,5 +1,5 @@
 //! Makes segments by their rules.
-ghost use Rattle.std.specs.Prelude.{◌≡◌, OnOk, map, ◌∷◌, []};
+ghost use Rattle.std.specs.Prelude.{OnOk, map, ◌∷◌, []};
 ghost use Rattle.gw_er7.specs.Building.{IsBegun};
 ghost use Rattle.gw_resolve.specs.Seen.{rule as seen_rule};
 ghost use Rattle.gw_interp.specs.own.Borrowed.{AreOf};

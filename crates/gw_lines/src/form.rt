@@ -1,11 +1,11 @@
 //! Text forms: parsers that take the lines of a text in turn, and then return the value of the whole.
-ghost use Rattle.std.specs.Prelude.{◌≡◌, ◌≤◌, ◌<◌, ◌+◌, ◌^◌, ℕ, List, Result, map, length, if◌then◌else◌, Err};
+ghost use Rattle.std.specs.Prelude.{◌<◌, ◌+◌, ◌^◌, map, length};
 ghost use Rattle.gw_lines.specs.Words.{words, lines};
 ghost use Rattle.gw_lines.specs.Reading.{Gives, AnswersLines, AnswersText, with_line, with_lines, is_too_large, Unless};
 
 use crate::lines::lines_of;
 use crate::words::{Word, words_of};
-use std::alloc::{AllocError, Global};
+use std::alloc::Global;
 
 /// The faults that every text form has. Each form adds its own.
 pub trait TextFault: Drop {
@@ -32,8 +32,7 @@ pub trait TextFault: Drop {
 
 /// A parser of one text form, line by line.
 pub trait Form<'a>: Drop {
-    ghost use Rattle.std.specs.Prelude.{◌≡◌, ℕ, List, Result, map};
-    ghost use Rattle.gw_lines.specs.Words.{Word as SpecWord};
+    ghost use Rattle.std.specs.Prelude.{ℕ, Result, map};
     ghost use Rattle.gw_lines.specs.Seen.{word};
     ghost use Rattle.gw_lines.specs.Reading.{Gives, Step};
 

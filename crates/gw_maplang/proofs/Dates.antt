@@ -1,5 +1,5 @@
 -- What is read behind the digits of a date.
-use Rattle.std.proofs.Common.{◌≡◌, ℕ, List, Option, Some, Result, IfOk, subst}
+use Rattle.std.proofs.Common.{◌≡◌, List, Option, Some, Result, IfOk, subst}
 use Rattle.std.specs.Option.{option_map}
 use Rattle.gw_lines.specs.Words.{Word}
 use Rattle.gw_lines.specs.Parts.{◌>>=◌}

@@ -1,7 +1,7 @@
 //! Builds a map from its lines, from the last to the first.
 ghost use Rattle.std.specs.Prelude.{◌≡◌, [], map, reverse, IfOk, OnOk, Some, None};
-ghost use Rattle.gw_maplang.specs.own.Building.{Stands, Grows, parts_of, levels_of, all_behind, IsSegment, IsEach, head_value};
-ghost use Rattle.gw_maplang.specs.Seen.{line, rule, alternative, leaf_value, dropped, all_items, now, items_of, walk, walk_some};
+ghost use Rattle.gw_maplang.specs.own.Building.{Stands, Grows, parts_of, all_behind, IsSegment, IsEach, head_value};
+ghost use Rattle.gw_maplang.specs.Seen.{line, rule, alternative, leaf_value, dropped, all_items, now, walk, walk_some};
 ghost use Rattle.gw_maplang.specs.Line as line_of;
 ghost use Rattle.gw_maplang.specs.Value as spec;
 

@@ -1,6 +1,5 @@
 //! The values of a condition.
-ghost use Rattle.std.specs.Prelude.{◌≡◌, IfOk, OnOk, true, not};
-ghost use Rattle.gw_maplang.specs.Fault.{is_among};
+ghost use Rattle.std.specs.Prelude.{IfOk, OnOk};
 ghost use Rattle.gw_maplang.specs.Seen.{items_all};
 ghost use Rattle.gw_maplang.specs.own.Finding as spec;
 

@@ -1,11 +1,11 @@
 //! Tables as their lines say them, and the tables that their columns are.
-ghost use Rattle.std.specs.Prelude.{◌≡◌, ◌<◌, ◌++◌, ◌∷◌, [], map, IfOk, OnOk, None, false};
+ghost use Rattle.std.specs.Prelude.{◌≡◌, ◌<◌, ◌++◌, [], map, IfOk, OnOk, None, false};
 ghost use Rattle.std.specs.Option.{option_map};
 ghost use Rattle.gw_maplang.specs.Among.{Distinct};
 ghost use Rattle.gw_maplang.specs.Columns as spec;
 ghost use Rattle.gw_maplang.specs.Fault.{is_among, is_said, wide_firsts};
 ghost use Rattle.gw_maplang.specs.Lawful.{table_names};
-ghost use Rattle.gw_maplang.specs.Seen.{now_all, items_all, path_some, table, wide_row, wide_table};
+ghost use Rattle.gw_maplang.specs.Seen.{now_all, items_all, table, wide_row, wide_table};
 ghost use Rattle.gw_maplang.specs.own.Widths.{LawfulWide, LawfulWides, rows_with, other_with, wide_named};
 
 use crate::parts::copies;

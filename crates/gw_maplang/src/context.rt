@@ -1,5 +1,5 @@
 //! What the lines so far leave open: tables, segments, rules, groups and flats.
-ghost use Rattle.std.specs.Prelude.{◌≡◌, ◌∷◌, [], ◌++◌, map, IfOk, OnOk, false};
+ghost use Rattle.std.specs.Prelude.{◌≡◌, ◌∷◌, [], ◌++◌, map, OnOk, false};
 ghost use Rattle.gw_maplang.specs.Fault as spec;
 ghost use Rattle.gw_maplang.specs.Columns as columns;
 ghost use Rattle.gw_maplang.specs.Seen.{line, now, now_all, rule, wide_table, open_segment, open_rule, OpenPartsFollow, HasRoom, IsNewTable, IsNewField, IsNewPlace};

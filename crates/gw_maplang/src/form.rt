@@ -1,13 +1,12 @@
 //! The line patterns of a map.
-ghost use Rattle.std.specs.Prelude.{◌≡◌, map, IfOk, Some, None};
+ghost use Rattle.std.specs.Prelude.{◌≡◌, map, IfOk};
 ghost use Rattle.std.specs.List.{list_any};
 ghost use Rattle.std.specs.Option.{option_map};
 ghost use Rattle.gw_lines.specs.Seen.{word};
 ghost use Rattle.gw_lines.specs.Parts.{with_all};
-ghost use Rattle.gw_lines.specs.Values.{bytes_of};
 ghost use Rattle.gw_maplang.specs.Line as spec;
-ghost use Rattle.gw_maplang.specs.Seen.{line, now, now_all, path, field_path, ref, leaf, alternative, leaf_value, dropped};
-ghost use Rattle.gw_maplang.specs.Seen.{condition, condition_some, field_condition, field_condition_some, walk, walk_some};
+ghost use Rattle.gw_maplang.specs.Seen.{line, now, now_all, field_path, leaf, leaf_value};
+ghost use Rattle.gw_maplang.specs.Seen.{condition, condition_some, field_condition, field_condition_some, walk_some};
 
 use crate::chosen::ChosenValues;
 use crate::parts::{

@@ -1,13 +1,12 @@
 //! Parses a map, line by line.
-ghost use Rattle.std.specs.Prelude.{◌≡◌, ◌∷◌, ◌||◌, ◌&&◌, [], not, map, IfOk, OnOk, false};
+ghost use Rattle.std.specs.Prelude.{◌≡◌, ◌∷◌, ◌||◌, [], map, IfOk, OnOk, false};
 ghost use Rattle.std.specs.List.{list_any, list_all};
 ghost use Rattle.gw_lines.specs.Seen.{word};
-ghost use Rattle.gw_lines.specs.Reading.{Gives, first_of, added};
+ghost use Rattle.gw_lines.specs.Reading.{Gives, first_of};
 ghost use Rattle.gw_lines.specs.Values.{is_value};
 ghost use Rattle.gw_maplang.specs.declared.fault.MapFault.TheVariants as fault;
 ghost use Rattle.gw_maplang.specs.Columns.{wide_row_of};
 ghost use Rattle.gw_maplang.specs.Fault as spec;
-ghost use Rattle.gw_maplang.specs.Line as form;
 ghost use Rattle.gw_lines.specs.Grammar.{Taken};
 ghost use Rattle.gw_maplang.specs.Seen.{line, above, now_all, items_all, rule, condition_now, field_condition_some, walk_some, ref, leaf, leaf_value, wide_table, open_segment, open_rule, map_value, IsNewField, IsNewPlace, IsNewTable};
 ghost use Rattle.gw_maplang.specs.Whole.{whole, is_unclosed, map_of};
@@ -639,7 +638,6 @@ fn open_below(
 }
 
 impl<'a> Form<'a> for Reader<'a> {
-    ghost use Rattle.std.specs.Prelude.{◌≡◌};
     ghost use Rattle.gw_lines.specs.Reading.{Gives, adding};
     ghost use Rattle.gw_maplang.specs.declared.fault.MapFault.TheVariants as fault;
     ghost use Rattle.gw_maplang.specs.Fault.{takes};

@@ -2,7 +2,7 @@
 ghost use Rattle.std.specs.Prelude.{◌≡◌, ◌++◌, ◌∷◌, [], map, OnOk, None, Some, false};
 ghost use Rattle.gw_maplang.specs.Fault.{is_among};
 ghost use Rattle.gw_maplang.specs.Shapes.{row_of, second_of};
-ghost use Rattle.gw_maplang.specs.Seen.{row, now, items_of};
+ghost use Rattle.gw_maplang.specs.Seen.{row, now};
 
 use indexmap::IndexMap;
 use std::alloc::{AllocError, Global};

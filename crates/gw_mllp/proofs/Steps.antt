@@ -13,17 +13,6 @@ pub AllByRecursion-push : {X : Type 0} (P : X → Type 0) (xs : List X) (x : X) 
 AllByRecursion-push P [] x h p = (p, tt)
 AllByRecursion-push P (y ∷ xs) x h p = (h.0, AllByRecursion-push P xs x h.1 p)
 
--- a run between two blocks
-pub Blocks-gap : (s g : List ℕ) (bs : List (List ℕ)) → Blocks s bs None → IsGap g → Blocks (s ++ g) bs None
-Blocks-gap s g bs cut gap = record {
-  parts = cut.parts;
-  rest = cut.rest ++ g;
-  whole = ap (λ (x : List ℕ). x ++ g) cut.whole ∙ append_assoc (flat_map spelled cut.parts) cut.rest g;
-  each = cut.each;
-  contents = cut.contents;
-  is_rest = Lacks-append 11 cut.rest g cut.is_rest gap;
-}
-
 -- a run up to a VT
 pub Blocks-begin : (s g : List ℕ) (bs : List (List ℕ)) → Blocks s bs None → IsGap g → Blocks (s ++ (g ++ 11 ∷ [])) bs (Some [])
 Blocks-begin s g bs cut gap = record {
@@ -88,9 +77,6 @@ LongAfter-now s t u v bs cut no_end long = record {
 
 -- ---- runs
 
-pub goes_nowhere : (made : List (List ℕ)) (tail : Tail) → Goes made tail [] made tail
-goes_nowhere made tail stream given taken = subst (λ (x : List ℕ). Taken x (given ++ made) tail) (sym (append-nil stream)) taken
-
 pub goes_on : (made made₁ made₂ : List (List ℕ)) (tail tail₁ tail₂ : Tail) (run more : List ℕ) → Goes made tail run made₁ tail₁ → Goes made₁ tail₁ more made₂ tail₂ → Goes made tail (run ++ more) made₂ tail₂
 goes_on made made₁ made₂ tail tail₁ tail₂ run more g h stream given taken =
     subst (λ (x : List ℕ). Taken x (given ++ made₂) tail₂) (append_assoc stream run more) (h (stream ++ run) given (g stream given taken))
@@ -100,9 +86,6 @@ pub goes_behind : (first made made' : List (List ℕ)) (tail tail' : Tail) (run 
 goes_behind first made made' tail tail' run g stream given taken =
     subst (λ (x : List (List ℕ)). Taken (stream ++ run) x tail') (append_assoc given first made')
     (g stream (given ++ first) (subst (λ (x : List (List ℕ)). Taken stream x tail) (sym (append_assoc given first made)) taken))
-
-pub goes_gap : (made : List (List ℕ)) (gap : List ℕ) → IsGap gap → Goes made Between gap made Between
-goes_gap made gap lacks stream given taken = Blocks-gap stream gap (given ++ made) taken lacks
 
 pub goes_begin : (made : List (List ℕ)) (gap : List ℕ) → IsGap gap → Goes made Between (gap ++ 11 ∷ []) made (Within [])
 goes_begin made gap lacks stream given taken = (Blocks-begin stream gap (given ++ made) taken lacks, omega arith)

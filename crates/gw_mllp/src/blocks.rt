@@ -1,5 +1,5 @@
 //! The blocks that begin within a piece of a stream.
-ghost use Rattle.std.specs.Prelude.{◌≡◌, ◌≢◌, ◌<◌, ◌++◌, ◌∷◌, [], length, List, ℕ, IfOk, IfErr, IfSome, IfNone, OnOk, OnErr};
+ghost use Rattle.std.specs.Prelude.{◌≡◌, ◌++◌, ◌∷◌, [], List, ℕ, IfOk, IfErr, IfSome, IfNone, OnOk, OnErr};
 ghost use Rattle.gw_mllp.specs.Stream.{IsGap, Between};
 ghost use Rattle.gw_mllp.specs.Taken.{Begins, EndsAt, Goes, Steps, contents, tail_view};
 

@@ -80,8 +80,8 @@ fn end_block(
 }
 
 impl Decoder {
-    ghost use Rattle.std.specs.Prelude.{◌≡◌, ◌≢◌, ◌↔◌, ◌++◌, ◌∷◌, [], List, ℕ, IfOk, IfErr, IfNone, IfSome, IsErrOf, IsOk, OnOk, OnErr};
-    ghost use Rattle.gw_mllp.specs.Stream.{Held, Stands, Between, Within, Overlong, IsFed, HasGiven};
+    ghost use Rattle.std.specs.Prelude.{◌≡◌, ◌≢◌, ◌↔◌, ◌∷◌, [], List, ℕ, IfErr, IfNone, IfSome, IsErrOf, IsOk, OnOk, OnErr};
+    ghost use Rattle.gw_mllp.specs.Stream.{Stands, Between, Within, Overlong, IsFed, HasGiven};
     ghost use Rattle.gw_mllp.specs.Taken.{Adds};
 
     /// A decoder of an empty stream. It takes no memory.

@@ -1,5 +1,5 @@
 //! How far an open block reaches into the bytes that come next.
-ghost use Rattle.std.specs.Prelude.{◌≡◌, ◌≤◌, ◌<◌, ◌+◌, ◌↔◌, ◌++◌, ◌∷◌, [], length, slice_index, take, true, IsTrue, IfSome, IfNone};
+ghost use Rattle.std.specs.Prelude.{◌≡◌, ◌≤◌, ◌<◌, ◌↔◌, ◌++◌, ◌∷◌, [], length, slice_index, take, IsTrue, IfSome, IfNone};
 ghost use Rattle.memchr.specs.Find.{FindsNeedle, IsFirst, Passes, is_byte};
 ghost use Rattle.gw_mllp.specs.Stream.{HasNoEnd, content_len};
 ghost use Rattle.gw_mllp.specs.Taken.{EndsAt, IsLone, Reaches, Straddles};

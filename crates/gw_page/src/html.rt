@@ -1,7 +1,7 @@
 //! The page.
-ghost use Rattle.std.specs.Prelude.{◌≡◌, ◌++◌, IfOk, OnOk};
+ghost use Rattle.std.specs.Prelude.{IfOk, OnOk};
 ghost use Rattle.gw_page.specs.Answers.{IsPage};
-ghost use Rattle.gw_page.specs.Rows.{Extends, entries};
+ghost use Rattle.gw_page.specs.Rows.{Extends};
 
 use crate::parts::{put_entries, put_rows, put_time};
 use crate::texts::{put, put_escaped, put_number};

@@ -1,8 +1,7 @@
 //! Metrics in Prometheus' text format (version 0.0.4), line by line.
-ghost use Rattle.std.specs.Prelude.{◌≡◌, ◌++◌, OnOk, decimal};
-ghost use Rattle.gw_page.specs.Escapes.{quoted};
+ghost use Rattle.std.specs.Prelude.{◌≡◌, ◌++◌, OnOk};
 ghost use Rattle.gw_page.specs.Rows.{Extends};
-ghost use Rattle.gw_page.specs.Samples.{figure_of, label, sample, each};
+ghost use Rattle.gw_page.specs.Samples.{label, sample, each};
 
 use crate::figure::{Figure, figure_of};
 use crate::texts::{put, put_number, put_quoted};

@@ -57,13 +57,6 @@ demands_or nothing = inr tt
 demands_or (segment s rest) = demands_behind s.card.min rest (demands_or rest)
 demands_or (group g nodes rest) = demands_behind g.card.min rest (demands_or rest)
 
-pub demands_not : (f : Forest) → Demands f → Optional f → ⊥
-demands_not nothing d o = d
-demands_not (segment s rest) (inl d) o = omega (arith, o.0)
-demands_not (segment s rest) (inr d) o = demands_not rest d o.1
-demands_not (group g nodes rest) (inl d) o = omega (arith, o.0)
-demands_not (group g nodes rest) (inr d) o = demands_not rest d o.1
-
 -- a list of names and a kind of names are one
 abbrev pub Lists : List Name → (Name → Type 0) → Type 0
 Lists names P = (x : Name) → Among x names ↔ P x

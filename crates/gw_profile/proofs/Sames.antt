@@ -38,11 +38,6 @@ segment_same x y r xs ys p q n l u k h =
 
 -- ---- nodes
 
-segment_of : Forest → SegmentValue → SegmentValue
-segment_of nothing other = other
-segment_of (segment s rest) other = s
-segment_of (group g nodes rest) other = other
-
 pub segments_same : (x y : SegNode) (node : Node) (r : Bool) → node ≡ Seg y → IsTrue r ↔ (segment_value x ≡ segment_value y) → IsTrue r ↔ SameNode (Seg x) node
 segments_same x y node r is h = subst (λ (n : Node). IsTrue r ↔ SameNode (Seg x) n) (sym is)
     (λ t. λ rest. ap (λ (s : SegmentValue). segment s rest) (h.0 t), λ e. h.1 (let k = e nothing in cc))

@@ -1,11 +1,9 @@
 //! Builds a profile from its lines, from the last to the first.
-ghost use Rattle.std.specs.Prelude.{◌≡◌, ◌∷◌, [], map, reverse, IfOk, OnOk, unwrap_or, if◌then◌else◌, Some};
-ghost use Rattle.gw_profile.specs.declared.shape.Usage.TheVariants.{O};
-ghost use Rattle.gw_profile.specs.Shapes.{segment};
-ghost use Rattle.gw_profile.specs.own.Building.{Stands, Grows, parts_of, nodes_of, forests, IsGroup, built};
+ghost use Rattle.std.specs.Prelude.{◌≡◌, map, reverse, IfOk, OnOk, if◌then◌else◌, Some};
+ghost use Rattle.gw_profile.specs.own.Building.{Stands, Grows, parts_of, forests, IsGroup, built};
 ghost use Rattle.gw_profile.specs.Whole.{empty_group};
 ghost use Rattle.gw_profile.specs.LookAhead.{is_optional};
-ghost use Rattle.gw_profile.specs.Seen.{line, sub, comp, field, forest, leaf_of, now, items_of};
+ghost use Rattle.gw_profile.specs.Seen.{line, sub, comp, forest, leaf_of, now, items_of};
 ghost use Rattle.gw_profile.specs.Line as line_of;
 ghost use Rattle.gw_profile.specs.Value as spec;
 

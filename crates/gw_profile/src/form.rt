@@ -1,5 +1,5 @@
 //! The line patterns of a profile.
-ghost use Rattle.std.specs.Prelude.{◌≡◌, ◌≤◌, map, IfOk};
+ghost use Rattle.std.specs.Prelude.{◌≡◌, map, IfOk};
 ghost use Rattle.std.specs.Option.{option_map};
 ghost use Rattle.gw_lines.specs.Seen.{word};
 ghost use Rattle.gw_lines.specs.Parts.{with_all};

@@ -45,10 +45,9 @@ impl Drop for Profile {
 
 impl Model for Profile {
     ghost use Rattle.std.specs.Coded.{codes};
-    ghost use Rattle.std.specs.Prelude.{ℕ, List, map};
+    ghost use Rattle.std.specs.Prelude.{map};
     ghost use Rattle.gw_profile.specs.Seen.{Contents, table};
     ghost use Rattle.gw_profile.specs.Kept.{IsKept};
-    ghost use Rattle.gw_profile.specs.declared.node.Node.{Node};
     ghost use Rattle.gw_profile.specs.contracts.node.Node as node;
 
     ghost Value = { Contents };

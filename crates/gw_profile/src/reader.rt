@@ -4,7 +4,6 @@ ghost use Rattle.gw_lines.specs.Seen.{word};
 ghost use Rattle.gw_lines.specs.Reading.{Gives, first_of, adding};
 ghost use Rattle.gw_profile.specs.declared.fault.ProfileFault.TheVariants as fault;
 ghost use Rattle.gw_profile.specs.Fault as spec;
-ghost use Rattle.gw_profile.specs.Line as form;
 ghost use Rattle.gw_lines.specs.Grammar.{Taken};
 ghost use Rattle.gw_profile.specs.Seen.{line, made, kept, said, Agreed};
 ghost use Rattle.gw_profile.specs.own.Building.{built_value};
@@ -53,7 +52,7 @@ struct Tested<'a> {
 }
 
 impl<'a> Model for Reader<'a> {
-    ghost use Rattle.std.specs.Prelude.{List, map};
+    ghost use Rattle.std.specs.Prelude.{List};
     ghost use Rattle.gw_profile.specs.Line.{Line};
     ghost use Rattle.gw_profile.specs.Seen.{said, Agreed};
 
@@ -288,7 +287,6 @@ impl<'a> ReaderState<'a> {
 }
 
 impl<'a> Form<'a> for Reader<'a> {
-    ghost use Rattle.std.specs.Prelude.{◌≡◌};
     ghost use Rattle.gw_lines.specs.Reading.{Gives, adding};
     ghost use Rattle.gw_profile.specs.declared.fault.ProfileFault.TheVariants as fault;
     ghost use Rattle.gw_profile.specs.Fault.{takes};

@@ -1,5 +1,5 @@
 //! Determinism by one name of look-ahead.
-ghost use Rattle.std.specs.Prelude.{◌≡◌, ◌++◌, ◌∷◌, ◌+◌, ◌==◌, [], ℕ, List, IfOk, OnOk, if◌then◌else◌, length, drop, ◌≤◌, Some};
+ghost use Rattle.std.specs.Prelude.{◌≡◌, ◌++◌, ◌∷◌, ◌+◌, ◌==◌, [], IfOk, OnOk, if◌then◌else◌, length, drop, ◌≤◌, Some};
 ghost use Rattle.gw_profile.specs.Seen.{forest};
 ghost use Rattle.gw_profile.specs.Fault as fault;
 ghost use Rattle.gw_profile.specs.Line as line_of;

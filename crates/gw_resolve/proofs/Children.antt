@@ -1,11 +1,11 @@
 -- The nodes of a profile by their numbers, and the nodes within them.
-use Rattle.std.proofs.Common.{◌≡◌, ℕ, zero, suc, true, false, List, [], ◌∷◌, Option, Some, None, refl, sym, ap, ◌∙◌, arith, length, true≢false, nat_lt, get_or, ◌<◌}
+use Rattle.std.proofs.Common.{◌≡◌, ℕ, zero, suc, true, false, List, [], ◌∷◌, None, refl, sym, ap, ◌∙◌, arith, length, true≢false, nat_lt, get_or, ◌<◌}
 use Rattle.std.proofs.lemmas.Bool.Decides.{nat_tests}
 use Rattle.gw_profile.specs.declared.node.Node.{Node, Seg, Group'}
 use Rattle.gw_profile.specs.Shapes.{nothing, Forest}
 use Rattle.gw_profile.specs.Seen.{forest, node_forest}
 use Rattle.gw_profile.specs.Labels.{within, inner}
-use Rattle.gw_resolve.specs.Places.{Element, nodes_of, child, nodes_of_child}
+use Rattle.gw_resolve.specs.Places.{child}
 
 same_child : (n : Node) (rest other : _) → child (node_forest n rest) 0 ≡ child (node_forest n other) 0
 same_child (Seg s) rest other = refl
@@ -39,10 +39,3 @@ pub within_at : (nodes : List Node) (i : ℕ) (n : Node) → i < length nodes �
 within_at [] i n h e = absurd (omega (arith, h))
 within_at (m ∷ nodes) zero n h e = at_first m (forest nodes) ∙ ap inner (sym (e n))
 within_at (m ∷ nodes) (suc i) n h e = later m (forest nodes) i ∙ within_at nodes i n (omega (arith, h)) e
-
-abbrev within_of : (o : Option Element) → Forest
-within_of None = nothing
-within_of (Some e) = nodes_of e
-
-pub same_within : (f g : Forest) (i j : ℕ) → child f i ≡ child g j → nodes_of_child f i ≡ nodes_of_child g j
-same_within f g i j e = ap within_of e

@@ -1,7 +1,7 @@
 //! How often something may come. Numbers above every number of a profile are kept as one.
 ghost use Rattle.std.specs.Prelude.{◌≡◌, min, option_map};
 ghost use Rattle.gw_resolve.specs.Intervals as spec;
-ghost use Rattle.gw_resolve.specs.Seen.{cap, interval, saturated};
+ghost use Rattle.gw_resolve.specs.Seen.{cap, interval};
 
 use gw_profile::Card;
 

@@ -1,5 +1,5 @@
 //! The items of a map without labels: one walk that finds the failures of what they name.
-ghost use Rattle.std.specs.Prelude.{◌≡◌, IfOk, OnOk};
+ghost use Rattle.std.specs.Prelude.{IfOk, OnOk};
 ghost use Rattle.gw_maplang.specs.Seen as raw;
 ghost use Rattle.gw_maplang.specs.declared.item.Item.{SegFrom, SegAlways, EachAs, EachFlat};
 ghost use Rattle.gw_profile.specs.Labels.{nodes_in};

@@ -1,5 +1,5 @@
 //! The looking up of the labels of a map.
-ghost use Rattle.std.specs.Prelude.{◌≡◌, ◌++◌, if◌then◌else◌, is_some, not, map, flat_map, IfOk, OnOk};
+ghost use Rattle.std.specs.Prelude.{◌≡◌, ◌++◌, if◌then◌else◌, is_some, map, flat_map, IfOk, OnOk};
 ghost use Rattle.gw_profile.specs.Seen.{profile_value};
 ghost use Rattle.gw_maplang.specs.Seen as raw;
 ghost use Rattle.gw_resolve.specs.own.Looking.{place_there};

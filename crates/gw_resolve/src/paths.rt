@@ -1,6 +1,5 @@
 //! The places to which the paths of a map lead.
-ghost use Rattle.std.specs.Prelude.{◌≡◌, ℕ, ◌++◌, IfOk, option_map, unwrap_or, bytes_eq};
-ghost use Rattle.std.specs.Global.{Vec};
+ghost use Rattle.std.specs.Prelude.{◌≡◌, IfOk, option_map, unwrap_or, bytes_eq};
 ghost use Rattle.gw_maplang.specs.Seen.{items_all};
 ghost use Rattle.gw_resolve.specs.Naming as spec;
 ghost use Rattle.gw_resolve.specs.own.Looking.{further, begun, onwards, AreStepsBehind};

@@ -1,7 +1,6 @@
 //! The rules of a map without labels, and the failures of what they read.
-ghost use Rattle.std.specs.Prelude.{◌≡◌, List, map, flat_map, IfOk, OnOk};
+ghost use Rattle.std.specs.Prelude.{◌≡◌, map, flat_map, IfOk, OnOk};
 ghost use Rattle.gw_maplang.specs.Seen as raw;
-ghost use Rattle.gw_maplang.specs.Shapes.{TableValue};
 ghost use Rattle.gw_resolve.specs.Naming as spec;
 ghost use Rattle.gw_resolve.specs.Outcome.{IsMadeOf, AreMadeOf};
 ghost use Rattle.gw_resolve.specs.Seen as seen;

@@ -1,5 +1,5 @@
 //! The target nodes of items, and whether they are in order (3).
-ghost use Rattle.std.specs.Prelude.{◌≡◌, ◌++◌, not, nat_lt, if◌then◌else◌, slice_get, bytes_eq, option_map, option_and_then, IfOk, OnOk};
+ghost use Rattle.std.specs.Prelude.{◌≡◌, ◌++◌, not, nat_lt, if◌then◌else◌, slice_get, bytes_eq, option_and_then, IfOk, OnOk};
 ghost use Rattle.std.specs.List.{list_all};
 ghost use Rattle.gw_maplang.specs.Seen.{now, with_item, all_items};
 ghost use Rattle.gw_maplang.specs.Shapes.{nothing};
@@ -8,7 +8,7 @@ ghost use Rattle.gw_resolve.specs.Failures.{at_line, fails};
 ghost use Rattle.gw_resolve.specs.Naming as spec;
 ghost use Rattle.gw_resolve.specs.own.Looking.{is_kind};
 ghost use Rattle.gw_resolve.specs.Places as places;
-ghost use Rattle.gw_resolve.specs.Seen.{Notes, element as seen};
+ghost use Rattle.gw_resolve.specs.Seen.{Notes};
 
 use crate::element::{ScopeNode, child};
 use crate::failure::{Failure, at_line, note};

@@ -2,7 +2,6 @@
 use denote.RattleType.{RattleType}
 use denote.Param.Send.{IsSend, IsSync, sendable}
 use Rattle.std.proofs.Crossing.{crosses}
-use Rattle.std.proofs.MapsCrossing as maps
 use Rattle.std.specs.declared.sync.ledger.Ledger as ledger
 use Rattle.std.proofs.sync.ledger.Book.TheSendSync as book
 use Rattle.std.proofs.sync.ledger.Share.TheSendSync as share
@@ -18,9 +17,6 @@ use Rattle.gw_run.specs.contracts.pass.Receipts as Receipts
 Locked-send : (L : RattleType) (g : ledger.Ghosts L.Denot) → IsSend (Locked.the_field L g).row
 Locked-send L g = search (Gate-send, book.the_send, phase.the_field_send, crosses, sendable) depth 60 fits 50000
 
-pub LockedGate-send : (L : RattleType) (g : ledger.Ghosts L.Denot) → IsSend (LockedGate.the_field L g).row
-LockedGate-send L g = search (Locked-send, crosses, sendable) depth 60 fits 50000
-
 pub LockedGate-sync : (L : RattleType) (g : ledger.Ghosts L.Denot) → IsSync (LockedGate.the_field L g).row
 LockedGate-sync L g = search (Locked-send, crosses, sendable) depth 60 fits 50000
 
@@ -34,6 +30,3 @@ Note-send = search (Receipt-send, plans_cross, crosses, sendable) depth 60 fits 
 
 pub Receipts-send : (L : RattleType) (g : ledger.Ghosts L.Denot) → IsSend (Receipts.the_field L g).row
 Receipts-send L g = search (Note-send, share.the_send, crosses, sendable) depth 60 fits 50000
-
--- what a thread may hold of a locked gate, and what it may hand over of its pass
-pub ruleset threads = (LockedGate-send, LockedGate-sync, Receipts-send, plans_cross, maps.crosses, crosses, sendable)

@@ -1,41 +1,19 @@
 -- The least message from its header on.
-use Rattle.std.proofs.Common.{◌≡◌, ℕ, zero, suc, ◌-◌, ◌<◌, ◌≤◌, List, [], ◌∷◌, ◌++◌, length, take, drop, get_or, sym, ap, subst, ◌∙◌, arith, Result, Ok, Err}
+use Rattle.std.proofs.Common.{◌≡◌, ℕ, zero, suc, ◌<◌, ◌≤◌, List, [], ◌∷◌, ◌++◌, length, sym, ap, subst, ◌∙◌, arith, Result, Ok, Err}
 use Rattle.std.specs.Prelude.{IfOk}
-use Rattle.std.proofs.lemmas.List.{append-nil, append_assoc, take_all}
+use Rattle.std.proofs.lemmas.List.{append-nil, append_assoc}
 use Rattle.gw_er7.specs.Building.{IsBegun}
 use Rattle.gw_er7.specs.Message.{SegmentValue, IsMessage, first_field}
 use Rattle.gw_er7.proofs.Again.{reads_again}
 use Rattle.gw_er7.proofs.Builds as builds
-use Rattle.gw_profile.specs.declared.node.Node.{Node, Seg, Group}
-use Rattle.gw_profile.specs.declared.node.GroupNode.{GroupNode}
-use Rattle.gw_profile.specs.declared.node.SegNode.{SegNode}
-use Rattle.gw_profile.specs.Seen.{segment_value, forest, node_forest}
 use Rattle.gw_profile.specs.Shapes as shapes
 use Rattle.gw_profile.specs.Shapes.{Forest, nothing, segment, group, ProfileValue}
 use Rattle.gw_profile.specs.WellFormed.{IsOther, Headed, EachSegment, LawfulSegment, WellFormed, table_names}
-use Rattle.gw_profile.proofs.Rows.{group_forest}
 use Rattle.gw_validate.specs.Conforming.{Conforms}
 use Rattle.gw_sample.specs.own.Least.{Key, keys_of, one_of, several_of, least, ArePlaces, MayFollow, MayHead, Adds, Fits}
 use Rattle.gw_sample.proofs.Added.{made, one_lawful, header_message, follows}
 use Rattle.gw_sample.proofs.LeastConforms.{least_conforms}
 use Rattle.gw_sample.proofs.Places.{places_are}
-
--- ---- the first node
-
-pub no_head : (nodes : List Node) → length nodes < 1 → Headed (forest nodes) → ⊥
-no_head [] lt h = absurd h
-no_head (n ∷ nodes) lt h = absurd (omega (arith, lt))
-
-pub group_head : (nodes : List Node) (first : Node) (g : GroupNode) → 1 ≤ length nodes → first ≡ get_or nodes 0 first → first ≡ Group g → Headed (forest nodes) → ⊥
-group_head [] first g le at is h = absurd h
-group_head (n ∷ nodes) first g le at is h = absurd (subst Headed (ap (λ (m : Node). node_forest m (forest nodes)) (sym at ∙ is) ∙ group_forest g (forest nodes)) h)
-
-pub segment_head : (nodes : List Node) (first : Node) (s : SegNode) → 1 ≤ length nodes → first ≡ get_or nodes 0 first → first ≡ Seg s
-    → forest nodes ≡ segment (segment_value s) (forest (take (length nodes - 1) (drop 1 nodes)))
-segment_head [] first s le at is = absurd (omega (arith, le))
-segment_head (n ∷ nodes) first s le at is =
-    let rest : take (length (n ∷ nodes) - 1) nodes ≡ nodes = take_all (length (n ∷ nodes) - 1) nodes (omega arith) in
-    ap (λ (m : Node). node_forest m (forest nodes)) (sym at ∙ is) ∙ ap (λ (l : List Node). segment (segment_value s) (forest l)) (sym rest)
 
 -- ---- the message
 
@@ -70,12 +48,6 @@ some_segment [] h = absurd h
 some_segment (s ∷ m) h = omega arith
 
 -- ---- of a profile
-
-pub may_head : (p : ProfileValue) (s : shapes.SegmentValue) (rest : Forest) → WellFormed p → p.nodes ≡ segment s rest → MayHead s rest
-may_head p s rest wf e =
-    let h : Headed (segment s rest) = subst Headed e wf.headed in
-    let l : EachSegment (LawfulSegment (table_names p.tables)) (segment s rest) = subst (EachSegment (LawfulSegment (table_names p.tables))) e wf.segments in
-    record { tables = table_names p.tables; lawful = l.0; header = h.0; each = l.1; others = h.1 }
 
 pub fits : (p : ProfileValue) (s : shapes.SegmentValue) (rest : Forest) (m : List SegmentValue) → WellFormed p → p.nodes ≡ segment s rest → length (least p.nodes) ≤ 10000
     → Adds (least (segment s rest)) [] m → Fits p m

@@ -1,5 +1,5 @@
 //! How many texts have to come in a message, counted before one is made up.
-ghost use Rattle.std.specs.Prelude.{◌≡◌, ◌≤◌, ◌↔◌, map, max, min, IsTrue};
+ghost use Rattle.std.specs.Prelude.{◌≡◌, ◌≤◌, ◌↔◌, map, min, IsTrue};
 ghost use Rattle.std.specs.List.{sum_by};
 ghost use Rattle.gw_profile.specs.Seen.{sub as seen_sub, comp as seen_comp, field as seen_field, segment_value, node_forest, forest};
 ghost use Rattle.gw_profile.specs.Shapes.{nothing};

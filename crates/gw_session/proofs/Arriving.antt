@@ -11,7 +11,7 @@ use Rattle.gw_ack.specs.declared.reply.Reply.TheVariants.{Accept, Reject}
 use Rattle.gw_crew.specs.Notes.{NoteSeen, Looked, WasStale}
 use Rattle.gw_crew.specs.own.Turns.{Adds}
 use Rattle.gw_session.specs.declared.doors.NumberedReply.{NumberedReply}
-use Rattle.gw_session.specs.Sessions.{Decides, HasCode, IsCutShort, IsOutcome, Judged, Tries}
+use Rattle.gw_session.specs.Sessions.{Decides, IsCutShort, IsOutcome, Judged, Tries}
 use Rattle.gw_session.specs.Sessions as sessions
 use Rattle.gw_session.specs.own.Steps.{Asks, Taken, Back, NoRoom, ComesTo, CutsShort, EndsIn, JudgementSeen, OnceMore, Settles}
 use Rattle.gw_session.specs.own.Steps as steps

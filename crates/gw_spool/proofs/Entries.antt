@@ -7,10 +7,10 @@ use Rattle.std.specs.Cmp.Lexicographic.{told_text}
 use lib.Pointwise.{pointwise}
 use Rattle.sha2.specs.Sha256.{sha256}
 use Rattle.sha2.proofs.Facts256.{length-sha256}
-use Rattle.gw_spool.specs.File.{Entry, Record, Acknowledgment, item, body, blocks, IsUnsynced, HasNoEntry, IsDamagedAt, after}
-use Rattle.gw_spool.specs.own.Steps.{BeginsItem, Begins, IsReadTo, IsRead}
+use Rattle.gw_spool.specs.File.{Entry, body, blocks, IsUnsynced, after}
+use Rattle.gw_spool.specs.own.Steps.{Begins, IsReadTo, IsRead}
 use Rattle.gw_spool.proofs.Ends.{blocks-append, short-append, after-append}
-use Rattle.gw_spool.proofs.Ways.{fronts, one_begin}
+use Rattle.gw_spool.proofs.Ways.{fronts}
 
 pub cut_at : (n : ℕ) (whole front back : List ℕ) → front ≡ take n whole → back ≡ drop n whole → front ++ back ≡ whole
 cut_at n whole front back is rest =
@@ -34,20 +34,7 @@ differ a b says = by (pointwise nat_eq a b) (told_text a b (pointwise nat_eq a b
     by true same says = absurd (cc)
     by false other says = other
 
--- no entry has an item that is neither empty nor a record behind its digest
-pub no_entry : (bytes found rest : List ℕ) → BeginsItem bytes found rest → (found ≡ [] → ⊥) → ((r : List ℕ) → found ≡ sha256 r ++ r → ⊥) → HasNoEntry bytes
-no_entry bytes found rest begins some no_record (Record r) more short is =
-    absurd (no_record r (one_begin bytes found (sha256 r ++ r) rest more begins (record { whole = is; short = short })).0)
-no_entry bytes found rest begins some no_record Acknowledgment more short is =
-    absurd (some (one_begin bytes found [] rest more begins (record { whole = is; short = short })).0)
-
-pub no_entry_at_all : (bytes : List ℕ) → ((i more : List ℕ) → BeginsItem bytes i more → ⊥) → HasNoEntry bytes
-no_entry_at_all bytes none e more short is = none (item e) more (record { whole = is; short = short })
-
 -- ---- the loop
-
-pub read_nothing : (file : List ℕ) → IsReadTo file file []
-read_nothing file = record { entries = []; whole = refl; short = tt; waits = refl }
 
 pub read_more : (file rest behind : List ℕ) (waiting next : List (List ℕ)) (e : Entry) → IsReadTo file rest waiting → Begins rest e behind
     → next ≡ after waiting e → IsReadTo file behind next
@@ -76,16 +63,4 @@ read_whole file rest waiting end read is unsynced = record {
     here = is ∙ place file rest waiting read;
   };
   waits = read.waits;
-}
-
-pub damage : (file rest : List ℕ) (waiting : List (List ℕ)) (at : ℕ) → IsReadTo file rest waiting → at ≡ length file - length rest
-    → (IsUnsynced rest → ⊥) → HasNoEntry rest → IsDamagedAt at file
-damage file rest waiting at read is synced none = record {
-  entries = read.entries;
-  rest = rest;
-  whole = read.whole;
-  short = read.short;
-  here = is ∙ place file rest waiting read;
-  synced = synced;
-  no_entry = none;
 }

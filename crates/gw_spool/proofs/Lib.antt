@@ -8,4 +8,3 @@ mod Sound
 mod Joining
 mod Slots
 mod Rowed
-pub mod Mirrored

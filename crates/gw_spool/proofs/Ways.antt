@@ -8,7 +8,6 @@ use Rattle.sha2.specs.Sha256.{sha256}
 use Rattle.sha2.proofs.Facts256.{length-sha256}
 use Rattle.gw_spool.specs.File.{Entry, Record, Acknowledgment, item, body, blocks, AreShort, IsUnsynced, Has, Keeps}
 use Rattle.gw_spool.specs.File.{KeepsAs, IsDamagedAt, after_all}
-use Rattle.gw_spool.specs.own.Steps.{BeginsItem}
 
 -- two lists whose fronts are xs long
 pub fronts : (n : ℕ) (a b x y : List ℕ) → length a ≡ n → length b ≡ n → a ++ x ≡ b ++ y → (a ≡ b) × (x ≡ y)
@@ -28,9 +27,6 @@ one_item i j x y short fits same =
     let size : length i ≡ length j = sym (from_be_bytes-to_be_bytes_4 (length i) short) ∙ ap (from_be_bytes w32) split.0
     ∙ from_be_bytes-to_be_bytes_4 (length j) fits in
     fronts (length j) i j x y size refl split.1
-
-pub one_begin : (bytes i j x y : List ℕ) → BeginsItem bytes i x → BeginsItem bytes j y → (i ≡ j) × (x ≡ y)
-one_begin bytes i j x y first second = one_item i j x y first.short second.short (ap (λ (l : List ℕ). drop 1 l) (sym first.whole ∙ second.whole))
 
 no_digest : (b : List ℕ) → [] ≡ sha256 b ++ b → ⊥
 no_digest b is = absurd (omega (arith, ap length is, length-append (sha256 b) b, length-sha256 b))

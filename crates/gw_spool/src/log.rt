@@ -1,7 +1,7 @@
 //! Steps on the disk: a batch of entries is added, the end of a file is repaired, a file is cleared.
 //!
 //! An entry counts behind an open gate (1). A closed gate (0) stands behind the last one, on the disk before anything is written behind it.
-ghost use Rattle.std.specs.Prelude.{◌≡◌, ◌+◌, ◌<◌, ◌≤◌, ◌^◌, ◌++◌, [], List, ℕ, length, take, drop, IfOk, OnOk, IsErrOf};
+ghost use Rattle.std.specs.Prelude.{◌≡◌, ◌<◌, ◌≤◌, ◌^◌, ◌++◌, [], List, ℕ, length, take, drop, IfOk, OnOk, IsErrOf};
 ghost use Rattle.gw_spool.specs.Device.{IsWritten, Torn, Cut, Only, LeavesOnly};
 ghost use Rattle.gw_spool.specs.File.{Entry, Has};
 ghost use Rattle.gw_spool.specs.own.Steps.{IsAtRest, Spells, HasEither, UpTo};

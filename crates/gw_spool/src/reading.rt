@@ -1,7 +1,7 @@
 //! What is read of a file.
-ghost use Rattle.std.specs.Prelude.{◌≡◌, ◌⊎◌, ◌↔◌, ◌+◌, ◌++◌, ◌∷◌, List, ℕ, length, option_map, IfOk, IfErr, IfSome, IfNone, IsTrue, OnOk};
+ghost use Rattle.std.specs.Prelude.{◌≡◌, ◌↔◌, ◌++◌, List, ℕ, option_map, IfOk, IfErr, IfSome, IfNone, IsTrue, OnOk};
 ghost use Rattle.sha2.specs.Sha256.{sha256};
-ghost use Rattle.gw_spool.specs.File.{after, IsUnsynced, IsDamagedAt, HasNoEntry};
+ghost use Rattle.gw_spool.specs.File.{after, IsUnsynced, HasNoEntry};
 ghost use Rattle.gw_spool.specs.own.Steps.{entry_of, records_of, Begins, BeginsItem, HasNoItem, IsRead, Refuses};
 
 use crate::digest::{DIGEST, digest_of};

@@ -1,7 +1,7 @@
 //! A row: records that wait on a disk in the numbered files of a folder, its segments, so that what waits takes no memory.
 //!
 //! The first segment is read and the last one is written. Those between are on the disk alone.
-use crate::device::{Device, DeviceFault};
+use crate::device::Device;
 use crate::fault::SpoolFault;
 use crate::folder::Folder;
 use crate::spool::Spool;
@@ -49,11 +49,11 @@ impl<D: Device> Model for Row<D> {
     } };
 }
 
-ghost use Rattle.std.specs.Prelude.{◌≡◌, ◌≢◌, ◌<◌, ◌≤◌, ◌+◌, [], List, ℕ, Some, Ok, length, IfOk, IfErr, OnOk, OnErr};
+ghost use Rattle.std.specs.Prelude.{◌≡◌, ◌≢◌, ◌<◌, ◌≤◌, ◌+◌, [], List, ℕ, Some, Ok, length, IfOk, OnErr};
 ghost use Rattle.gw_spool.specs.File.{Keeps, AllKeep};
-ghost use Rattle.gw_spool.specs.Folder.{There, LeavesAt, SameBut, may_leave_at, put};
+ghost use Rattle.gw_spool.specs.Folder.{There, LeavesAt, SameBut, may_leave_at};
 ghost use Rattle.gw_spool.specs.Folder.{IsWhole, joined};
-ghost use Rattle.gw_spool.specs.Rows.{RowState, IsOpen, IsRow, put_reading, disk};
+ghost use Rattle.gw_spool.specs.Rows.{IsOpen, IsRow, put_reading, disk};
 ghost use Rattle.gw_spool.specs.own.Rowing.{AllAt, Goes, NoneBelow, IsOpenOrNone, IsFound, IsFilled, IsPassing, StillWaits, with_reading};
 
 // The spool over the segment of this number. At `Err` the segment is closed.

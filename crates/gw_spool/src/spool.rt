@@ -50,7 +50,7 @@ impl<D: Device> Model for Spool<D> {
         IsSound D.seen D.may_leave s.device s.end (records_of s.kept.items) (records_of s.appended.items) s.pending.items };
 }
 
-ghost use Rattle.std.specs.Prelude.{◌≡◌, ◌<◌, ◌≤◌, ◌^◌, ◌++◌, ◌∷◌, List, ℕ, length, IfOk, IfErr, IsErrOf, OnOk, OnErr};
+ghost use Rattle.std.specs.Prelude.{◌≡◌, ◌<◌, ◌≤◌, ◌^◌, ◌++◌, ◌∷◌, List, ℕ, length, IfOk, IsErrOf, OnOk, OnErr};
 ghost use Rattle.gw_spool.specs.Device.{Only, LeavesOnly};
 ghost use Rattle.gw_spool.specs.File.{Record, body, KeepsAs, IsDamagedAt};
 ghost use Rattle.gw_spool.specs.own.Steps.{records_of, IsOpened};
@@ -123,7 +123,7 @@ fn open_file<D: Device>(
 }
 
 impl<D: Device> Spool<D> {
-    ghost use Rattle.std.specs.Prelude.{◌≡◌, ◌≢◌, ◌↔◌, ◌⊎◌, ◌+◌, ◌<◌, ◌^◌, [], false, true, ℕ, List};
+    ghost use Rattle.std.specs.Prelude.{◌≡◌, ◌≢◌, ◌↔◌, ◌⊎◌, ◌+◌, ◌<◌, ◌^◌, [], false, true, ℕ};
     ghost use Rattle.std.specs.Prelude.{slice_get, length, drop, option_map, IfOk, IfErr, IsErrOf, OnOk, OnErr};
     ghost use Rattle.gw_spool.specs.Device.{LeavesOnly, Only};
     ghost use Rattle.gw_spool.specs.File.{Keeps, KeepsAs, KeepsEither, AllKeep, IsDamagedAt};

@@ -1,5 +1,5 @@
 -- What is prepared of a content.
-use Rattle.std.proofs.Common.{◌≡◌, ◌||◌, ℕ, zero, suc, true, List, Option, Some, Ok, ◌≤◌, length, [], ◌∷◌, ◌++◌, map, take, ◌+◌, arith, rules}
+use Rattle.std.proofs.Common.{◌≡◌, ℕ, true, List, Option, Some, Ok, ◌≤◌, length, [], ◌∷◌, ◌++◌, map, take, ◌+◌, arith}
 use Rattle.std.proofs.Common.{subst, sym, ap, ◌∙◌, refl, get_or}
 use Rattle.std.proofs.lemmas.Bool.{eq-eqb}
 use Rattle.std.proofs.lemmas.List.{length-map, take_all, take_more}

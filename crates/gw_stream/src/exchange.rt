@@ -1,6 +1,5 @@
 //! A content, read, judged and answered.
 ghost use Rattle.std.specs.Prelude.{◌≡◌, ◌∷◌, [], ℕ, List, IfOk, OnErr};
-ghost use Rattle.gw_ack.specs.Headers.{HeaderValue};
 ghost use Rattle.gw_mllp.specs.Stream.{HasNoEnd};
 ghost use Rattle.gw_stream.specs.Answers.{IsReadAs, IsSettled, header_for};
 ghost use Rattle.gw_stream.specs.Exchanges.{Begins};

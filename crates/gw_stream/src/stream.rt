@@ -1,5 +1,5 @@
 //! A stream, answered or served block by block.
-ghost use Rattle.std.specs.Prelude.{◌≡◌, ◌≢◌, ◌↔◌, ◌+◌, ◌<◌, ◌^◌, length, OnOk, IfErr, IsTrue, IsErrOf, false};
+ghost use Rattle.std.specs.Prelude.{◌≡◌, ◌↔◌, ◌+◌, ◌<◌, ◌^◌, length, OnOk, IfErr, IsTrue, IsErrOf, false};
 ghost use Rattle.std.specs.Arc.{arc_value};
 ghost use Rattle.std.specs.List.{All, list_any};
 ghost use Rattle.gw_plan.specs.Held.{plan_value};

@@ -1,5 +1,4 @@
 //! A service: what its threads share, and what each of them does.
-ghost use Rattle.std.specs.Prelude.{◌≡◌, ◌<◌, ◌^◌};
 
 use crate::doors::{Reporter, Who};
 use crate::heard::{Heard, Unacknowledged, sent_in};
@@ -86,7 +85,7 @@ impl Pause for Onward {
 }
 
 impl<'a, L: Ledger, R: Wait + Eprint + AllocGlobal> Service<'a, L, R> {
-    ghost use Rattle.std.specs.Prelude.{◌≡◌, ◌<◌, IfSome};
+    ghost use Rattle.std.specs.Prelude.{◌≡◌};
 
     /// A service at this gate, whose ledger has these parts.
     pub(crate) fn new(rt: &'a R, start: Stamp, gate: Gate, book: Book<L>, share: Share<L>) -> Self

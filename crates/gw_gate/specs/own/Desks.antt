@@ -1,5 +1,5 @@
 -- What the desks of a gate hold, by the receivers' numbers.
-use Rattle.std.specs.Prelude.{◌≡◌, ℕ, ◌<◌, ◌≤◌, Bool, true, false, length, if◌then◌else◌, List, map, slice_index_or, Option, option_map}
+use Rattle.std.specs.Prelude.{◌≡◌, ℕ, ◌<◌, ◌≤◌, Bool, true, false, length, if◌then◌else◌, List, map, slice_index_or, option_map}
 use Rattle.std.specs.Arc.{arc_value}
 use Rattle.std.specs.declared.alloc.Global.{Global}
 use Rattle.std.specs.declared.sync.Arc.{Arc}
@@ -47,7 +47,3 @@ Waits desk false = (r : ℕ) → length (desk r).due ≤ (desk r).released
 -- what is next was released
 abbrev pub given_out : DeskState TranslatedSeen → DeskState TranslatedSeen
 given_out s = after_giving s (next_of s)
-
--- a value that was released, with its number
-abbrev pub given_seen : Option (ℕ × Arc Translated Global) → Option (ℕ × TranslatedSeen)
-given_seen o = option_map (λ g. (g.0, value_seen g.1)) o

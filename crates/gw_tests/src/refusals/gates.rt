@@ -1,5 +1,4 @@
 //! A gate, its replay, and what a pass through it leaves.
-ghost use Rattle.std.specs.Prelude.{◌≡◌};
 
 use super::{Call, MOST, holds, refuse, sweep, was_refused};
 use crate::gates::{CUT, HISTORIES, History, begun, event, opened, plan, said};

@@ -1,5 +1,5 @@
 //! The command `gateway`: its words, its folder, its threads.
-ghost use Rattle.std.specs.Thread.{IsSend, IsSync};
+ghost use Rattle.std.specs.Thread.{IsSync};
 
 use crate::ended::Ended;
 use crate::gateway::control;

@@ -1,5 +1,4 @@
 //! The folder of what waits for one receiver: its segments are files, named by their numbers.
-ghost use Rattle.std.specs.Prelude.{ℕ};
 ghost use Rattle.gw_spool.specs.Folder.{Nothing};
 
 use crate::gateway::folder::{make_folder, open_private, sync_folder};

@@ -1,5 +1,4 @@
 //! What is known to be on the disk, and the answers that wait for it.
-ghost use Rattle.std.specs.Prelude.{◌≡◌};
 
 use gw_forward::Safety;
 use gw_gate::{receiver_at, receiver_count};

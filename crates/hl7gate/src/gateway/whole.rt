@@ -1,7 +1,6 @@
 //! A sender's connection, read by whole messages.
 //!
 //! What a session gets ends with a message. So a round can end while a sender is silent, or in the midst of a message: what came of it waits for the next round.
-ghost use Rattle.std.specs.Prelude.{◌≤◌, length};
 
 use crate::gateway::hub::Hub;
 use memchr::{memchr, memchr_iter, memrchr_iter};

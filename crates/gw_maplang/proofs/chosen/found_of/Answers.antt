@@ -1,4 +1,4 @@
-use Rattle.std.proofs.Common.{subst, ap}
+use Rattle.std.proofs.Common.{subst}
 use Rattle.gw_maplang.specs.Seen.{items_all}
 use Rattle.gw_maplang.specs.own.Finding.{IsAdded}
 use Rattle.gw_maplang.proofs.Added.{found_more}

@@ -1,14 +1,14 @@
-use Rattle.std.proofs.Common.{◌≡◌, ◌≢◌, ◌++◌, ◌∷◌, [], ℕ, List, None, refl, sym, ap, subst, ◌∙◌, arith}
+use Rattle.std.proofs.Common.{◌≡◌, ◌++◌, ◌∷◌, [], ℕ, List, None, refl, sym, ap, subst, ◌∙◌, arith}
 use Rattle.std.specs.Cmp.Lexicographic.{nat_list_cmp_total, slice_cmp}
 use Rattle.std.specs.Ordering.{nat_cmp}
 use Rattle.std.specs.FinMap as texts
 use Rattle.std.specs.FinMap.{get-empty, get-insert}
 use Rattle.gw_er7.specs.declared.place.Place.{Place}
 use Rattle.gw_er7.specs.Names.{header_name}
-use Rattle.gw_er7.specs.Message.{SegmentValue, numbers, IsEntry, IsSegment, IsMessage}
+use Rattle.gw_er7.specs.Message.{SegmentValue, numbers, IsEntry, IsMessage}
 use Rattle.gw_er7.specs.Building.{IsBegun, MayPut, with_last}
 use Rattle.gw_er7.proofs.Lasts.{kept_put}
-use Rattle.gw_er7.proofs.Builds.{begun, begun_segment, begun_header, begun_named, entry_at, canonical_of, may_put}
+use Rattle.gw_er7.proofs.Builds.{begun, begun_header, begun_named, entry_at, canonical_of}
 use Rattle.gw_tests.proofs.messages.built.Goals as goal
 
 abbrev third : List ℕ

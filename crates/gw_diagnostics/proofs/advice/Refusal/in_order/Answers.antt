@@ -1,6 +1,6 @@
 use Rattle.std.proofs.Common.{rules, of_calls}
 use Rattle.std.proofs.lemmas.Fn.{always_returns_same}
-use Rattle.gw_diagnostics.specs.Order.{place_of, AreInOrder}
+use Rattle.gw_diagnostics.specs.Order.{place_of}
 use Rattle.gw_diagnostics.proofs.advice.Refusal.in_order.Goals as goal
 
 -- each call of the closure gives the failure's place
