@@ -1,4 +1,4 @@
-//! `maps make EXAMPLES FOLDER` makes profiles, maps and contents, the same ones each time. `maps measure PROGRAM FOLDER ROUNDS` runs `check` and `translate` over them, and `plan` over a plan of many maps. It refuses to go on where an answer isn't the one that the rules give, and prints what they took.
+//! `maps make EXAMPLES FOLDER` makes profiles, maps and contents, the same ones each time. `maps measure PROGRAM FOLDER ROUNDS` runs `check` and `translate` over them, and `plan` over plans of many maps. It refuses to go on where an answer isn't the one that the rules give, and prints what they took.
 //!
 //! The two are two processes, since a child's peak counts what its parent had when it began.
 mod taken;
@@ -212,21 +212,50 @@ fn lookups(count: usize, values: usize) -> Case {
     )
 }
 
-/// A plan of this many maps that copy a field of a table of this many values, all between the same two profiles.
-fn plan(maps: usize, values: usize) -> String {
+/// What each map of a plan makes of a field: a copy, or a lookup in a table of its own.
+#[derive(Clone, Copy)]
+enum Made {
+    Copies,
+    Lookups,
+}
+
+impl Made {
+    const ALL: [Made; 2] = [Made::Copies, Made::Lookups];
+
+    /// The file of the plan, and the word for its maps.
+    fn name(self) -> &'static str {
+        match self {
+            Made::Copies => "copies",
+            Made::Lookups => "lookups",
+        }
+    }
+}
+
+/// A plan of this many maps that copy or look up a field of a table of this many values, all between the same two profiles.
+fn plan(made: Made, maps: usize, values: usize) -> String {
     let mut plan = String::from(
-        "plan COPIES\nreceiver PRINTER 127.0.0.1:7001\naccept version 2.5.1\naccept processing P\n",
+        "plan MAPS\nreceiver PRINTER 127.0.0.1:7001\naccept version 2.5.1\naccept processing P\n",
     );
-    for (name, turned) in [("FROM", false), ("TO", true)] {
+    let target = match made {
+        Made::Copies => table(values, true),
+        Made::Lookups => table(2, false),
+    };
+    for (name, codes) in [("FROM", table(values, false)), ("TO", target)] {
         write!(
             plan,
-            "begin profile\nprofile {name}\n{}segment MSH R 1..1\nsegment ZAA R 1..1\n  field 1 R 1..1 table CODES\nstop\n",
-            table(values, turned)
+            "begin profile\nprofile {name}\n{codes}segment MSH R 1..1\nsegment ZAA R 1..1\n  field 1 R 1..1 table CODES\nstop\n",
         )
         .expect("a String takes all");
     }
     for n in 0..maps {
-        write!(plan, "begin map\nmap M{n} from FROM to TO\nsegment MSH from MSH\nsegment ZAA from ZAA\n  copy 1 from ZAA-1\nstop\n")
+        let (rows, rule) = match made {
+            Made::Copies => (String::new(), "copy 1 from ZAA-1"),
+            Made::Lookups => (
+                format!("table ROWS\n  row {n} 0\n  else 1\n"),
+                "build 1 lookup ROWS ZAA-1",
+            ),
+        };
+        write!(plan, "begin map\nmap M{n} from FROM to TO\n{rows}segment MSH from MSH\nsegment ZAA from ZAA\n  {rule}\nstop\n")
             .expect("a String takes all");
     }
     plan
@@ -351,7 +380,10 @@ fn make(examples: &Path, folder: &Path) -> io::Result<()> {
         names.push('\n');
     }
     fs::write(folder.join("names"), names)?;
-    fs::write(folder.join("plan"), plan(PLAN_MAPS, VALUES))
+    for made in Made::ALL {
+        fs::write(folder.join(made.name()), plan(made, PLAN_MAPS, VALUES))?;
+    }
+    Ok(())
 }
 
 /// What a command takes over the files of a case, and how long its answer is.
@@ -396,26 +428,29 @@ fn measure(program: &str, folder: &Path, rounds: usize) -> io::Result<()> {
     Ok(())
 }
 
-/// What it takes to read the plan of many maps.
-fn measure_plan(program: &str, folder: &Path, rounds: usize) -> io::Result<()> {
-    let (plan, answer) = (folder.join("plan"), folder.join("answer"));
-    let taken = best(rounds, || {
-        run(
-            Command::new(program).arg("plan").arg(&plan),
-            Path::new("/dev/null"),
-            &answer,
-        )
-    })?;
-    if taken.status != 0 {
-        return Err(io::Error::other("plan gave another answer"));
-    }
+/// What it takes to read the plans of many maps.
+fn measure_plans(program: &str, folder: &Path, rounds: usize) -> io::Result<()> {
     println!("\n| Plan | Bytes | Read, ms | peak kB |\n|---|---|---|---|");
-    println!(
-        "| {PLAN_MAPS} maps between tables of {VALUES} values | {} | {:.0} | {} |",
-        fs::metadata(&plan)?.len(),
-        taken.seconds * 1e3,
-        taken.kilobytes
-    );
+    for made in Made::ALL {
+        let (plan, answer) = (folder.join(made.name()), folder.join("answer"));
+        let taken = best(rounds, || {
+            run(
+                Command::new(program).arg("plan").arg(&plan),
+                Path::new("/dev/null"),
+                &answer,
+            )
+        })?;
+        if taken.status != 0 {
+            return Err(io::Error::other("plan gave another answer"));
+        }
+        println!(
+            "| {PLAN_MAPS} maps of {} of {VALUES} values | {} | {:.0} | {} |",
+            made.name(),
+            fs::metadata(&plan)?.len(),
+            taken.seconds * 1e3,
+            taken.kilobytes
+        );
+    }
     Ok(())
 }
 
@@ -426,7 +461,7 @@ fn main() -> ExitCode {
         ["make", examples, folder] => make(examples.as_ref(), folder.as_ref()),
         ["measure", program, folder, rounds] => {
             let (folder, rounds) = (folder.as_ref(), rounds.parse().unwrap_or(3));
-            measure(program, folder, rounds).and_then(|()| measure_plan(program, folder, rounds))
+            measure(program, folder, rounds).and_then(|()| measure_plans(program, folder, rounds))
         }
         _ => {
             eprintln!("maps make EXAMPLES FOLDER | maps measure PROGRAM FOLDER ROUNDS");

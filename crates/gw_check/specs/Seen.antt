@@ -1,14 +1,18 @@
 -- What the program holds of the lines of a map, without where it lies in memory.
-use Rattle.std.specs.Prelude.{◌≡◌, ◌++◌, ℕ, List, [], ◌∷◌, map, Option, option_map, unwrap_or, Result, IfOk, OnOk}
+use Rattle.std.specs.Prelude.{◌≡◌, ◌++◌, ℕ, List, [], ◌∷◌, flat_map, map, Option, option_map, unwrap_or, Result, IfOk, OnOk}
+use Rattle.std.specs.Global.{Vec}
 use denote.Ref.{Bor}
 use Rattle.gw_maplang.specs.Shapes.{TableValue, table_of}
 use Rattle.gw_resolve.specs.Naming.{no_rows}
 use Rattle.gw_resolve.specs.Resolved.{Reference, Alternative, SegmentItem}
-use Rattle.gw_resolve.specs.Positions.{Position}
-use Rattle.gw_resolve.specs.Seen.{reference, place, some_condition, rule}
+use Rattle.gw_resolve.specs.Positions.{Position, positions}
+use Rattle.gw_resolve.specs.Seen.{reference, place, some_condition, alternative, at_leaf, rule}
+use Rattle.gw_resolve.specs.declared.resolved.Alternative as the_others
+use Rattle.gw_resolve.specs.declared.resolved.At as ats
+use Rattle.gw_resolve.specs.declared.resolved.ScopePath.{ScopePath}
 use Rattle.gw_resolve.specs.declared.resolved.SegmentItem as segments
 use Rattle.gw_resolve.specs.declared.resolved.Reference as references
-use Rattle.gw_check.specs.Sites.{Spot, Origin, unsaid, text, read, repeated, given, cut, Site, site_of, other_sites}
+use Rattle.gw_check.specs.Sites.{Spot, Origin, unsaid, text, read, repeated, given, cut, spot_at, Site, site_of, other_sites, leaf_sites}
 use Rattle.gw_check.specs.declared.segments.Target.{Target}
 use Rattle.gw_check.specs.declared.site.ElementPath as spots
 use Rattle.gw_check.specs.declared.site.Origin as origins
@@ -45,6 +49,18 @@ other_made scope walked place = other_sites scope walked place.at.now place.fiel
 
 abbrev pub some_reference : Option (Bor references.Reference) → Option Reference
 some_reference from = option_map (λ b. reference b.now) from
+
+-- the field of this number at a place, 0 for the segment or group
+abbrev pub read_at : List (Vec ℕ) → ScopePath → ℕ → Origin
+read_at scope from field = read (spot_at (positions scope) (place from) field 0 0)
+
+-- what the lines of these leaves make of a place
+abbrev pub others_made : List TableValue → List (Vec ℕ) → Option (Bor references.Reference) → Target → List the_others.Alternative → List Site
+others_made tables scope walked t others = flat_map (other_made (positions scope) (some_reference walked) t) (map (alternative tables) others)
+
+-- what the leaves of a field make
+abbrev pub leaves_made : List TableValue → List (Vec ℕ) → Option (Bor references.Reference) → Target → List ats.At → List Site
+leaves_made tables scope walked t leaves = flat_map (leaf_sites (positions scope) (some_reference walked) t.at.now t.field) (map (at_leaf tables) leaves)
 
 abbrev pub some_site : List TableValue → Option (Bor declared.Site) → Option Site
 some_site tables s = option_map (λ b. site tables b.now) s

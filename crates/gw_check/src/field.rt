@@ -52,7 +52,7 @@ fn line_of(holder: u32, rule: Option<&Rule>) -> u32
 // What the field asks of how often its rule gives it.
 fn asked(holder: u32, rule: Option<&Rule>, field: &FieldShape) -> Asked
     ensures mark { (tables : List TableValue) →
-        seen_mark result.mark ≡ field_mark (field_value field.now).number (spec.line_of_rule holder (some_rule tables rule.entry)) }
+        seen_mark result.mark ≡ field_mark field.now.number (spec.line_of_rule holder (some_rule tables rule.entry)) }
     ensures usage { result.usage ≡ (field_value field.now).usage }
     ensures card { result.card ≡ (field_value field.now).card }
     ensures is_missing { (tables : List TableValue) → result.is_missing ≡ spec.has_no_rule (some_rule tables rule.entry) }

@@ -3,8 +3,8 @@ ghost use Rattle.std.specs.Prelude.{◌≡◌, ◌++◌, ◌∷◌, [], List, If
 ghost use Rattle.gw_maplang.specs.Shapes.{TableValue};
 ghost use Rattle.gw_resolve.specs.Positions.{positions};
 ghost use Rattle.gw_resolve.specs.Resolved.{no_items, first_child as spec_first_child};
-ghost use Rattle.gw_resolve.specs.Seen.{place as seen_place, some_condition, with_item, all_items};
-ghost use Rattle.gw_check.specs.Seen.{AddsAll, all_sites, some_site, segment_item as seen_segment};
+ghost use Rattle.gw_resolve.specs.Seen.{some_condition, with_item, all_items};
+ghost use Rattle.gw_check.specs.Seen.{AddsAll, all_sites, some_site, read_at, segment_item as seen_segment};
 ghost use Rattle.gw_check.specs.Sites as spec;
 
 use crate::origins::path_at;
@@ -44,8 +44,7 @@ fn add_node(
     at: &[usize],
     place: &ScopePath,
 ) -> Result<(), AllocError>
-    ensures { AddsAll result sites.old.items sites.new.items
-        (λ tables. spec.node_sites line at.now (spec.node_origin (positions scope.now) (seen_place place.now))) }
+    ensures { AddsAll result sites.old.items sites.new.items (λ tables. spec.node_sites line at.now (read_at scope.now place.now 0)) }
 {
     let node = Target {
         at,

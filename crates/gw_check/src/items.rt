@@ -1,9 +1,7 @@
 //! The items of a level: how often they come, and for which target node.
 ghost use Rattle.std.specs.Prelude.{◌≡◌, IfOk};
-ghost use Rattle.gw_check.specs.own.ItemByItem.{CountsOne, CountsAll, Leads};
-ghost use Rattle.gw_leaves.specs.Counts as spec;
-ghost use Rattle.gw_resolve.specs.Intervals as intervals;
-ghost use Rattle.gw_resolve.specs.Seen.{interval, saturated, some_condition, scope as walked};
+ghost use Rattle.gw_check.specs.own.ItemByItem.{CountsChosen, CountsOne, CountsAll, Leads};
+ghost use Rattle.gw_resolve.specs.Seen.{scope as walked};
 ghost use Rattle.gw_check.specs.Levels.{is_of};
 
 use crate::level::{count_at, count_if};
@@ -12,7 +10,7 @@ use std::alloc::{AllocError, Global};
 
 // How often of these come that meet a condition, where there is one.
 fn chosen(condition: &Option<FieldCondition>, count: Interval) -> Interval
-    ensures { (full : intervals.Interval) → interval count ≡ saturated full → interval result ≡ saturated (spec.chosen_count (some_condition condition.now) full) }
+    ensures { CountsChosen condition.now count result }
 {
     match condition {
         None => count,

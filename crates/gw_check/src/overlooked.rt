@@ -6,7 +6,8 @@ ghost use Rattle.gw_check.specs.Collected.{Adds, fields_at, has_field, field_mis
 ghost use Rattle.gw_check.specs.Reads as spec;
 ghost use Rattle.gw_check.specs.Seen.{all_sites};
 ghost use Rattle.gw_check.specs.Sites.{sites as spec_sites};
-ghost use Rattle.gw_resolve.specs.Seen.{all_items, left_out};
+ghost use Rattle.gw_check.specs.own.Seen as seen;
+ghost use Rattle.gw_resolve.specs.Seen.{all_items};
 
 use crate::accounted::{Accounted, FieldAt};
 use crate::item_sites::{below, sites};
@@ -116,7 +117,7 @@ pub(crate) fn passed_over(
 ) -> Result<SourceUse, AllocError>
     ensures sites { IfOk result (λ used. (tables : List TableValue) → all_sites tables used.sites.items ≡ spec_sites (all_items tables items.now)) }
     ensures unread { IfOk result (λ used. (tables : List TableValue) →
-        fields_at used.unread.items ≡ spec.passed_over (all_items tables items.now) (map left_out drops.now) (forest nodes.now)) }
+        fields_at used.unread.items ≡ seen.passed_over tables items.now drops.now nodes.now) }
 {
     let sites = sites(alloc, items)?;
     let known = Accounted::of(alloc, &sites, drops)?;

@@ -5,7 +5,7 @@ ghost use Rattle.gw_profile.specs.Seen.{profile_value};
 ghost use Rattle.gw_profile.specs.WellFormed.{WellFormed};
 ghost use Rattle.gw_maplang.specs.Seen.{map_value};
 ghost use Rattle.gw_check.specs.Answers.{AreMade, UnlabelledIfAllowed, IsRefusal, IsTold};
-ghost use Rattle.gw_check.specs.Checked.{all_failures, unread};
+ghost use Rattle.gw_check.specs.Checked.{all_failures};
 ghost use Rattle.gw_check.specs.Collected.{fields_at};
 ghost use Rattle.gw_check.specs.Seen.{all_sites};
 ghost use Rattle.gw_check.specs.Sites.{sites};
@@ -113,9 +113,9 @@ fn find(
     ensures source { IfOk result (λ f. WellFormed (profile_value source.now)) }
     ensures target { IfOk result (λ f. WellFormed (profile_value target.now)) }
     ensures found { IfOk result (λ f.
-        seen_failures f.found.items ≡ seen.failures (spec.context_of source.now target.now map.now) named.now.items.items named.now.drops.items) }
+        seen_failures f.found.items ≡ seen.resolved_failures (spec.context_of source.now target.now map.now) named.now) }
     ensures unread { IfOk result (λ f.
-        fields_at f.used.unread.items ≡ seen.unread (spec.context_of source.now target.now map.now) named.now.items.items named.now.drops.items) }
+        fields_at f.used.unread.items ≡ seen.resolved_unread (spec.context_of source.now target.now map.now) named.now) }
     ensures made { IfOk result (λ f. all_sites map.now.tables f.used.sites.items ≡ sites (all_items map.now.tables named.now.items.items)) }
 {
     let alloc = compared.alloc();
@@ -141,10 +141,8 @@ fn look(
 ) -> Result<Examined, AllocError>
     requires { AreCompared source.now target.now compared.old }
     ensures compared { AreCompared source.now target.now compared.new }
-    ensures found { IfOk result (λ e. seen_failures e.findings.found.items
-        ≡ all_failures (profile_value source.now) (profile_value target.now) (map_value map.now)) }
-    ensures unread { IfOk result (λ e. fields_at e.findings.used.unread.items
-        ≡ unread (profile_value source.now) (profile_value target.now) (map_value map.now)) }
+    ensures found { IfOk result (λ e. seen_failures e.findings.found.items ≡ seen.all_failures source.now target.now map.now) }
+    ensures unread { IfOk result (λ e. fields_at e.findings.used.unread.items ≡ seen.all_unread source.now target.now map.now) }
     ensures made { IfOk result (λ e. AreMade (profile_value source.now) (profile_value target.now) (map_value map.now) e.findings.used.sites.items) }
     ensures items { IfOk result (UnlabelledIfAllowed (profile_value source.now) (profile_value target.now) (map_value map.now)) }
 {

@@ -1,8 +1,8 @@
 //! What the rules of a target segment make.
-ghost use Rattle.std.specs.Prelude.{map, flat_map};
+ghost use Rattle.std.specs.Prelude.{map};
 ghost use Rattle.gw_resolve.specs.Positions.{positions};
-ghost use Rattle.gw_resolve.specs.Seen.{alternative, at_leaf, place as seen_place, rule as seen_rule};
-ghost use Rattle.gw_check.specs.Seen.{AddsAll, made, other_made, origin as seen_origin, some_reference};
+ghost use Rattle.gw_resolve.specs.Seen.{rule as seen_rule};
+ghost use Rattle.gw_check.specs.Seen.{AddsAll, made, others_made, leaves_made, read_at, origin as seen_origin};
 ghost use Rattle.gw_check.specs.Sites as spec;
 
 use crate::origins::{leaf_origin, path_at};
@@ -55,8 +55,7 @@ pub(crate) fn add_read(
     place: &ScopePath,
     field: u32,
 ) -> Result<(), AllocError>
-    ensures { AddsAll result sites.old.items sites.new.items
-        (λ tables. made line target.entry (spec.read (spec.spot_at (positions scope.now) (seen_place place.now) field 0 0))) }
+    ensures { AddsAll result sites.old.items sites.new.items (λ tables. made line target.entry (read_at scope.now place.now field)) }
 {
     let from = path_at(alloc, scope, place, field, LeafPlace { comp: 0, sub: 0 })?;
     add_site(alloc, sites, line, target, Origin::Read(from))
@@ -70,8 +69,7 @@ fn add_others(
     place: Target<'_>,
     others: &[Alternative],
 ) -> Result<(), AllocError>
-    ensures { AddsAll result sites.old.items sites.new.items
-        (λ tables. flat_map (other_made (positions scope.now) (some_reference walked.entry) place.entry) (map (alternative tables) others.now)) }
+    ensures { AddsAll result sites.old.items sites.new.items (λ tables. others_made tables scope.now walked.entry place.entry others.now) }
 {
     for other in others {
         let origin = leaf_origin(alloc, scope, walked, &other.leaf)?;
@@ -88,8 +86,7 @@ fn add_leaves(
     target: Target<'_>,
     leaves: &[At],
 ) -> Result<(), AllocError>
-    ensures { AddsAll result sites.old.items sites.new.items
-        (λ tables. flat_map (spec.leaf_sites (positions scope.now) (some_reference walked.entry) target.entry.at.now target.entry.field) (map (at_leaf tables) leaves.now)) }
+    ensures { AddsAll result sites.old.items sites.new.items (λ tables. leaves_made tables scope.now walked.entry target.entry leaves.now) }
 {
     for leaf in leaves {
         let place = Target {

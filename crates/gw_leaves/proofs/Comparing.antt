@@ -16,13 +16,14 @@ use Rattle.gw_profile.specs.Fault.{is_among}
 use Rattle.gw_profile.specs.declared.shape.Count.{Count}
 use Rattle.gw_profile.specs.Lengths.{measure, len_count}
 use Rattle.gw_profile.specs.Numbered.{some_sub}
-use Rattle.gw_profile.specs.Seen.{profile_value}
+use Rattle.gw_profile.specs.Seen.{Contents, profile_value}
 use Rattle.gw_profile.specs.Shapes.{SubValue, ProfileValue}
 use Rattle.gw_profile.specs.Value.{table_of as table_in}
 use Rattle.gw_profile.proofs.Facts.{both}
 use Rattle.gw_maplang.specs.Seen as seen_maps
 use Rattle.gw_maplang.specs.Seen.{now}
 use Rattle.gw_maplang.specs.Shapes as maps
+use Rattle.gw_leaves.specs.declared.compared.Compared.{Compared}
 use Rattle.gw_leaves.specs.declared.comparison.Found.{Found}
 use Rattle.gw_leaves.specs.declared.given.LeafSource.{LeafSource}
 use Rattle.gw_leaves.specs.Components.{table_values}
@@ -30,7 +31,7 @@ use Rattle.gw_leaves.specs.Context.{ContextValue, context_of}
 use Rattle.gw_leaves.specs.Leaves.{listed, is_short, sub_values, has_no_row, may_be_unlisted, may_be_long}
 use Rattle.gw_leaves.specs.Texts.{items_all}
 use Rattle.gw_leaves.specs.own.Held.{given_texts}
-use Rattle.gw_leaves.specs.own.Comparisons.{table_texts, values_named, rows_named, rowed, table_of, len_of, some_unrowed, is_unrowed, Origin, is_any, texts_in, given_at, given_by, all_given, fits, exceeds, is_outside, is_outside_named, holds_of, Lengths, size_of, some_length, Adds, AreOfValues, AreOfRows, AreUnlisted, AreLookedUp, Asks, some_values, Comparison, names_eq, comparisons_eq, IsCompared, IsFound, IsListed, AreKept, AreLists, Copied, texts_eq, copies_eq, IsCopyOf, AreCopies, Sized, is_lacking, is_missing, is_within, unrowed_by, IsListing, IsShortest}
+use Rattle.gw_leaves.specs.own.Comparisons.{table_texts, values_named, rows_named, rowed, table_of, len_of, some_unrowed, is_unrowed, Origin, is_any, texts_in, given_at, given_by, all_given, fits, exceeds, is_outside, is_outside_named, holds_of, Lengths, size_of, some_length, Adds, AreOfValues, AreOfRows, AreUnlisted, AreLookedUp, Asks, some_values, Comparison, names_eq, comparisons_eq, IsCompared, IsFound, IsListed, AreKept, AreLists, AreCompared, Copied, texts_eq, name_of, copies_eq, IsCopyOf, AreCopies, Sized, is_lacking, is_missing, is_within, unrowed_by, IsListing, IsShortest}
 use Rattle.gw_leaves.proofs.Inserted.{any_map, inserted}
 
 -- of a slice of texts
@@ -145,7 +146,7 @@ module _ (s : ContextValue) (c : Comparison) (to : Count) (there : Option (Bor (
 
   -- against a table that is named: the shortest text that this lacks
   pub of_missing : {S E : Type 0} (table name : Bor (List ℕ)) (sizes : List Sized) (made : Result (IndexSet (ℕ × ℕ) S) E) → c.0.1 ≡ Some table → c.1 ≡ Some name → rows ≡ None
-      → IsListed s c.0.1 sizes → IfOk made (λ l. AreUnlisted (some_values there) sizes l.keys) → IfOk made (λ l. IsCompared s c l.keys)
+      → IsListed s.source (now c.0.1) sizes → IfOk made (λ l. AreUnlisted (some_values there) sizes l.keys) → IfOk made (λ l. IsCompared s c l.keys)
   of_missing table name sizes (Err x) some named none listing h = tt
   of_missing table name sizes (Ok l) some named none listing h = λ len most asks.
       let least : most ≡ None = asks (ap (λ n. is_some (now n)) named) in
@@ -184,7 +185,7 @@ same_found s x y found e h =
       unrowed = λ name is. subst (λ n. IsShortest s.source.count (values_named s.source.tables n) (rows_named s.map.tables name) found.unrowed) listed (h.unrowed name (rows ∙ is));
     }
 
-pub found_of : (s : ContextValue) (c : Comparison) (found : Found) (all : List Sized) → IsListed s c.0.1 all → IsCompared s c found.lengths.keys → found.unrowed ≡ unrowed_by s.map.tables (now c.0.0) all → IsFound s c found
+pub found_of : (s : ContextValue) (c : Comparison) (found : Found) (all : List Sized) → IsListed s.source (now c.0.1) all → IsCompared s c found.lengths.keys → found.unrowed ≡ unrowed_by s.map.tables (now c.0.0) all → IsFound s c found
 found_of s c found all listing is e = record {
   lengths = is;
   unrowed = λ name there len. ap (is_within len) (e ∙ ap (λ n. unrowed_by s.map.tables n all) there) ∙ listing (is_lacking (rows_named s.map.tables name)) len;
@@ -200,18 +201,15 @@ kept_more s x found old new updates is h c f e = by (comparisons_eq x c) refl (e
     by true same e = subst (λ o. IsFound s c (arc_value o)) (sym (ap (λ o. unwrap_or o f) e)) (same_found s x c (arc_value found) same is)
     by false other e = h c f e
 
-pub listed_as : (s : ContextValue) (name : Option (Bor (List ℕ))) (count : Count) (texts : List (List ℕ)) (all : List Sized) → count ≡ s.source.count → texts ≡ values_named s.source.tables (now name)
-    → IsListing count texts all → IsListed s name all
-listed_as s name count texts all e f h = λ test len. h test len ∙ (λ i. list_any (λ t. fits len (measure (e i) t) && test t) (f i))
-
-pub no_lists : (s : ContextValue) (lists : List (Option (Bor (List ℕ)) × Vec Sized)) → lists ≡ [] → AreLists s lists
-no_lists s lists e name all f = absurd (true≢false (ap is_some f ∙ ap (λ l. is_some (lookup (option_eq names_eq name) l)) e))
+pub listed_as : (source : Contents) (name : Option (List ℕ)) (count : Count) (texts : List (List ℕ)) (all : List Sized) → count ≡ source.count → texts ≡ values_named source.tables name
+    → IsListing count texts all → IsListed source name all
+listed_as source name count texts all e f h = λ test len. h test len ∙ (λ i. list_any (λ t. fits len (measure (e i) t) && test t) (f i))
 
 pub none_kept : (s : ContextValue) (known : List (Comparison × Arc Found Global)) → known ≡ [] → AreKept s known
 none_kept s known e c found f = absurd (true≢false (ap is_some f ∙ ap (λ l. is_some (lookup (comparisons_eq c) l)) e))
 
 -- copies depend on the profiles alone
-same_text : (x y : Option (Vec ℕ)) → option_eq texts_eq x y ≡ true → option_map (λ (v : Vec ℕ). v.items) x ≡ option_map (λ (v : Vec ℕ). v.items) y
+same_text : (x y : Option (Vec ℕ)) → option_eq texts_eq x y ≡ true → name_of x ≡ name_of y
 same_text None None e = refl
 same_text (Some x) (Some y) e = ap Some ((bytes_eq-Decides x.items y.items).0 e)
 same_text x y e = grind arith
@@ -242,15 +240,22 @@ copies_more s c x found old new updates of is h k f e map d also = by (copies_eq
     by false other e = h k f e map d also
 
 -- one list more
-pub listed_more : (s : ContextValue) (x : Option (Bor (List ℕ))) (all : Vec Sized) (old new : List (Option (Bor (List ℕ)) × Vec Sized))
-    → ((name : Option (Bor (List ℕ))) → lookup (option_eq names_eq name) new ≡ cond (option_eq names_eq x name) (Some all) (lookup (option_eq names_eq name) old))
-    → IsListed s x all.items → AreLists s old → AreLists s new
-listed_more s x all old new updates is h name f e = by (option_eq names_eq x name) refl (e ∙ updates name)
+pub listed_more : (source : Contents) (x : Option (Vec ℕ)) (all : Arc (Vec Sized) Global) (old new : List (Option (Vec ℕ) × Arc (Vec Sized) Global))
+    → ((name : Option (Vec ℕ)) → lookup (option_eq texts_eq name) new ≡ cond (option_eq texts_eq x name) (Some all) (lookup (option_eq texts_eq name) old))
+    → IsListed source (name_of x) (arc_value all).items → AreLists source old → AreLists source new
+listed_more source x all old new updates is h name f e = by (option_eq texts_eq x name) refl (e ∙ updates name)
   where
-    by : (b : Bool) → option_eq names_eq x name ≡ b → Some f ≡ cond b (Some all) (lookup (option_eq names_eq name) old) → IsListed s name f.items
+    by : (b : Bool) → option_eq texts_eq x name ≡ b → Some f ≡ cond b (Some all) (lookup (option_eq texts_eq name) old) → IsListed source (name_of name) (arc_value f).items
     by true same e =
-        subst (λ (o : Vec Sized). IsListed s name o.items) (sym (ap (λ o. unwrap_or o f) e)) (subst (λ n. IsListing s.source.count (values_named s.source.tables n) all.items) (same_name x name same) is)
+        subst (λ (o : Arc (Vec Sized) Global). IsListed source (name_of name) (arc_value o).items) (sym (ap (λ o. unwrap_or o f) e)) (subst (λ n. IsListed source n (arc_value all).items) (same_text x name same) is)
     by false other e = h name f e
+
+-- more lists beside the same copies
+pub compared_as : (source from target : Contents) (old new : Compared) → from ≡ source → new.copies.entries ≡ old.copies.entries → AreLists from new.lists.entries → AreCompared source target old → AreCompared source target new
+compared_as source from target old new e same lists are = record {
+  copies = subst (AreCopies source target) (sym same) are.copies;
+  lists = subst (λ s. AreLists s new.lists.entries) e lists;
+}
 
 -- ---- what is read at a place
 

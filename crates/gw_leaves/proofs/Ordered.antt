@@ -26,7 +26,7 @@ longer (Some most) m n le e = grind (arith, nat_tests)
 
 -- where one is too long, each behind it is
 too_long : (len : Option ℕ) (test : List ℕ → Bool) (p : Sized) (all : List Sized) → IsNonDecreasingBy (λ (q : Sized). q.0) (p ∷ all) → fits len p.0 ≡ false
-    → list_any (λ (q : Sized). fits len q.0 && test q.1.now) all ≡ false
+    → list_any (λ (q : Sized). fits len q.0 && test q.1.items) all ≡ false
 too_long len test p [] up e = refl
 too_long len test p (q ∷ all) up e =
     let le : p.0 ≤ q.0 = up 0 1 p (omega arith) (omega arith) in
@@ -40,10 +40,10 @@ chosen true false len n o rest e r h = e ∙ sym (h refl)
 chosen false true len n o rest e r h = r
 chosen false false len n o rest e r h = r
 
-first_is_shortest : (test : List ℕ → Bool) (len : Option ℕ) (all : List Sized) → IsNonDecreasingBy (λ (q : Sized). q.0) all → is_within len (first_length test all) ≡ list_any (λ (q : Sized). fits len q.0 && test q.1.now) all
+first_is_shortest : (test : List ℕ → Bool) (len : Option ℕ) (all : List Sized) → IsNonDecreasingBy (λ (q : Sized). q.0) all → is_within len (first_length test all) ≡ list_any (λ (q : Sized). fits len q.0 && test q.1.items) all
 first_is_shortest test len [] up = refl
 first_is_shortest test len (p ∷ all) up =
-    chosen (test p.1.now) (fits len p.0) len p.0 (first_length test all) (list_any (λ (q : Sized). fits len q.0 && test q.1.now) all) refl
+    chosen (test p.1.items) (fits len p.0) len p.0 (first_length test all) (list_any (λ (q : Sized). fits len q.0 && test q.1.items) all) refl
     (first_is_shortest test len all (IsNonDecreasingBy-drop (λ (r : Sized). r.0) 1 (p ∷ all) up)) (too_long len test p all up)
 
 pub listing_of : (count : Count) (texts : List (Vec ℕ)) (old new : List Sized) → map sized old ≡ map (λ (v : Vec ℕ). (measure count v.items, v.items)) texts → IsPermutation old new
@@ -51,7 +51,7 @@ pub listing_of : (count : Count) (texts : List (Vec ℕ)) (old new : List Sized)
 listing_of count texts old new is moved up test len =
     let passes : ℕ × List ℕ → Bool = λ q. fits len q.0 && test q.1 in
     first_is_shortest test len new up
-    ∙ sym (list_any-IsPermutation (λ (q : Sized). fits len q.0 && test q.1.now) old new moved)
+    ∙ sym (list_any-IsPermutation (λ (q : Sized). fits len q.0 && test q.1.items) old new moved)
     ∙ sym (any_map sized passes old)
     ∙ ap (list_any passes) is
     ∙ any_map (λ (v : Vec ℕ). (measure count v.items, v.items)) passes texts

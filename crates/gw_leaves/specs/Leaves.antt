@@ -1,5 +1,5 @@
 -- What is known of the texts that a leaf gives: whether one is there, and which it can be (HL7 v2.5.1 chapter 2, 2.12: usage, length, table).
-use Rattle.std.specs.Prelude.{◌≡◌, ℕ, Bool, true, false, ◌&&◌, ◌||◌, not, nat_lt, nat_le, if◌then◌else◌, List, [], ◌∷◌, ◌++◌, map, filter, filter_map, Option, Some, None, is_some, option_map, option_to_list, unwrap_or}
+use Rattle.std.specs.Prelude.{◌≡◌, ◌⊎◌, ◌≤◌, IsSomeAnd, ℕ, Bool, true, false, ◌&&◌, ◌||◌, not, nat_lt, nat_le, if◌then◌else◌, List, [], ◌∷◌, ◌++◌, map, filter, filter_map, Option, Some, None, is_some, option_map, option_to_list, unwrap_or}
 use Rattle.std.specs.List.{list_any}
 use Rattle.gw_profile.specs.declared.shape.Usage.{Usage}
 use Rattle.gw_profile.specs.declared.shape.Usage.TheVariants.{R, X}
@@ -131,6 +131,26 @@ source_shape s (of_field from comp sub) =
 source_shape s (of_current comp sub) =
     record { presence = rep_presence s.current comp sub; values = sub_values s.profile (sub_of (comp_of s.current comp) sub) }
 
+-- of a text that is taken from a field
+abbrev pub presence_of : Sources → Reference → ℕ → ℕ → Presence
+presence_of s from comp sub = (source_shape s (of_field from comp sub)).presence
+
+-- its segment is always there, its field is required and comes at least once, and its component and subcomponent are required
+abbrev pub IsRequiredAt : Sources → Reference → ℕ → ℕ → Type 0
+IsRequiredAt s from comp sub =
+    (is_never (known s.scope from.place).count.greatest ≡ false) × (1 ≤ (known s.scope from.place).count.least)
+    × IsSomeAnd (at_field s from) (λ f. (f.usage ≡ R) × (1 ≤ f.card.min))
+    × IsSomeAnd (comp_of (at_field s from) comp) (λ c. c.usage ≡ R)
+    × IsSomeAnd (sub_of (comp_of (at_field s from) comp) sub) (λ t. t.usage ≡ R)
+
+-- its segment is never there, or the field, the component or the subcomponent is forbidden
+abbrev pub IsForbiddenAt : Sources → Reference → ℕ → ℕ → Type 0
+IsForbiddenAt s from comp sub =
+    (is_never (known s.scope from.place).count.greatest ≡ true)
+    ⊎ IsSomeAnd (at_field s from) (λ f. f.usage ≡ X)
+    ⊎ IsSomeAnd (comp_of (at_field s from) comp) (λ c. c.usage ≡ X)
+    ⊎ IsSomeAnd (sub_of (comp_of (at_field s from) comp) sub) (λ t. t.usage ≡ X)
+
 -- of a text that may be left out
 abbrev pub perhaps : Presence → Presence
 perhaps Never = Never
@@ -191,3 +211,9 @@ meets usage p = true
 abbrev pub is_included : Count → Shape → SubValue → Option (List (List ℕ)) → Bool
 is_included to shape s table =
     meets s.usage shape.presence && (is_absent shape.presence || (not (may_be_unlisted shape.values table) && not (may_be_long to shape.values s.len)))
+
+-- what stands there meets the usage, and is never there or has only values of the table that aren't too long
+abbrev pub MeetsSub : Count → Shape → SubValue → Option (List (List ℕ)) → Type 0
+MeetsSub to shape s table =
+    (s.usage ≡ R → shape.presence ≡ Always) × (s.usage ≡ X → shape.presence ≡ Never)
+    × ((shape.presence ≡ Never) ⊎ ((may_be_unlisted shape.values table ≡ false) × (may_be_long to shape.values s.len ≡ false)))

@@ -4,19 +4,23 @@ use denote.Ref.{Bor}
 use Rattle.gw_profile.specs.declared.shape.FieldShape.{FieldShape}
 use Rattle.gw_profile.specs.Shapes.{ProfileValue}
 use Rattle.gw_profile.specs.Seen.{field, profile_value}
+use Rattle.gw_maplang.specs.declared.rule.Condition.{Condition}
 use Rattle.gw_maplang.specs.Shapes.{TableValue}
+use Rattle.gw_maplang.specs.Seen.{condition_some}
 use Rattle.gw_resolve.specs.declared.failure.FailureSite.{FailureSite}
 use Rattle.gw_resolve.specs.declared.interval.Interval as intervals
 use Rattle.gw_resolve.specs.declared.resolved.Making.{Making}
+use Rattle.gw_resolve.specs.declared.resolved.Reference.{Reference}
 use Rattle.gw_resolve.specs.declared.resolved.Rule as rules_of
 use Rattle.gw_resolve.specs.Failures.{Failure}
 use Rattle.gw_resolve.specs.Intervals.{Interval}
 use Rattle.gw_resolve.specs.Resolved.{Rule}
-use Rattle.gw_resolve.specs.Seen.{scope, interval, saturated, mark, making, rule}
+use Rattle.gw_resolve.specs.Seen.{scope, interval, saturated, mark, reference, making, rule}
 use Rattle.gw_leaves.specs.declared.sources.Sources as declared
 use Rattle.gw_leaves.specs.Leaves.{Sources}
 use Rattle.gw_leaves.specs.Components as components
 use Rattle.gw_leaves.specs.Counts as counts
+use Rattle.gw_leaves.specs.Reached as reached
 
 abbrev pub sources_value : declared.Sources → Sources
 sources_value s = record { profile = profile_value s.context.now.source; scope = scope s.scope.now; current = option_map (λ f. field f.now) s.current }
@@ -47,3 +51,7 @@ CountsRule s r c = interval c ≡ saturated (rule_count s r)
 -- the failures of what a rule makes
 abbrev pub making_failures : declared.Sources → FailureSite → Making → FieldShape → List Failure
 making_failures s at m target = components.making_failures (sources_value s) (target_value s) (mark at) (making (map_tables s) m) (field target)
+
+-- the failure of a condition, if there is one, on what a source field has
+abbrev pub condition_failures : declared.Sources → FailureSite → Reference → Option Condition → List Failure
+condition_failures s at from chosen = reached.condition_failures (sources_value s) (mark at) (reference from) (condition_some chosen)

@@ -257,7 +257,7 @@ fn of_looked_up(
     to: Count,
     table: Option<&Table>,
     texts: LookedUp<'_>,
-    values: &[(u64, &[u8])],
+    values: &[(u64, Vec<u8>)],
 ) -> Result<Lengths, AllocError>
     requires { spec.IsListing texts.count (spec.some_values texts.listed) values.now }
     ensures { IfOk result (λ made. spec.AreAllOf texts.entry to (spec.some_values table.entry) made.keys) }
@@ -275,7 +275,7 @@ fn of_looked_up(
 fn of_unlisted(
     alloc: Global,
     table: Option<&Table>,
-    values: &[(u64, &[u8])],
+    values: &[(u64, Vec<u8>)],
 ) -> Result<Lengths, AllocError>
     ensures { IfOk result (λ made. spec.AreUnlisted (spec.some_values table.entry) values.now made.keys) }
 {
@@ -294,9 +294,9 @@ fn lengths_of(
     target: &Profile,
     map: &Map,
     comparison: Comparison<'_>,
-    values: &[(u64, &[u8])],
+    values: &[(u64, Vec<u8>)],
 ) -> Result<Lengths, AllocError>
-    requires { spec.IsListed (context_of source.now target.now map.now) comparison.0.1 values.now }
+    requires { spec.IsListed source.now (now comparison.0.1) values.now }
     ensures { IfOk result (λ made. spec.IsCompared (context_of source.now target.now map.now) comparison.entry made.keys) }
 {
     let ((rows, listed), name) = comparison;
@@ -329,7 +329,7 @@ fn lengths_of(
 }
 
 // The length of the shortest of these texts that has no row in the table of this name.
-fn unrowed_of(map: &Map, name: Option<&[u8]>, values: &[(u64, &[u8])]) -> Option<u64>
+fn unrowed_of(map: &Map, name: Option<&[u8]>, values: &[(u64, Vec<u8>)]) -> Option<u64>
     ensures { result ≡ spec.unrowed_by map.now.tables (now name.entry) values.now }
 {
     first_unrowed(map.table(name?), values)
@@ -342,9 +342,9 @@ pub(crate) fn compare(
     target: &Profile,
     map: &Map,
     comparison: Comparison<'_>,
-    values: &[(u64, &[u8])],
+    values: &[(u64, Vec<u8>)],
 ) -> Result<Found, AllocError>
-    requires { spec.IsListed (context_of source.now target.now map.now) comparison.0.1 values.now }
+    requires { spec.IsListed source.now (now comparison.0.1) values.now }
     ensures { IfOk result (λ made. spec.IsFound (context_of source.now target.now map.now) comparison.entry made) }
 {
     let lengths = lengths_of(alloc, source, target, map, comparison, values)?;

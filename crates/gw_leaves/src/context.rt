@@ -53,11 +53,10 @@ impl<'a> Model for MapContext<'a> {
 }
 
 impl<'a> MapContext<'a> {
-    ghost use Rattle.std.specs.Prelude.{◌≡◌, IfOk, OnOk, Some};
-    ghost use Rattle.std.specs.List.{list_any};
+    ghost use Rattle.std.specs.Prelude.{◌≡◌, IfOk};
     ghost use Rattle.gw_maplang.specs.Seen.{now};
     ghost use Rattle.std.specs.Arc.{arc_value};
-    ghost use Rattle.gw_leaves.specs.own.Comparisons.{AreCompared, AreLists, Asks, IsFound, is_outside_named, given_at, rows_named, some_unrowed, values_named};
+    ghost use Rattle.gw_leaves.specs.own.Comparisons.{AreCompared, Asks, IsFound, IsListed, some_given, some_value_unrowed};
     ghost use Rattle.gw_leaves.specs.Context.{context_of};
 
     /// The map with its profiles, and what is found of the tables that its items bring together, where this is the level of the source's nodes.
@@ -88,76 +87,58 @@ impl<'a> MapContext<'a> {
         context.knowing(compared, comparisons)
     }
 
-    // Lists the source's table of this name, if it isn't listed.
-    fn list(
+    // The values of the source's table of this name, the shortest first. They are listed once for all maps between the two profiles.
+    fn listing(
         &self,
-        lists: &mut IndexMap<Option<&'a [u8]>, Listing<'a>>,
-        name: Option<&'a [u8]>,
-    ) -> Result<(), AllocError>
-        requires { AreLists self.now lists.old.entries }
-        ensures { OnOk result (AreLists self.now lists.new.entries) }
+        compared: &mut Compared,
+        name: Option<&[u8]>,
+    ) -> Result<Arc<Listing>, AllocError>
+        requires { AreCompared self.now.source self.now.target compared.old }
+        ensures compared { AreCompared self.now.source self.now.target compared.new }
+        ensures all { IfOk result (λ all. IsListed self.now.source (now name.entry) (arc_value all).items) }
     {
-        if lists.contains_key(&name) {
-            return Ok(());
-        }
-        let all = by_length(
-            self.alloc,
-            self.source.count(),
-            listed_in(self.source, name),
-        )?;
-        lists.insert(name, all)?;
-        Ok(())
+        compared.listing(self.source, name)
     }
 
-    // What is found by a comparison, by these lists of the source's tables.
-    fn find(
-        &self,
-        lists: &IndexMap<Option<&[u8]>, Listing<'_>>,
-        comparison: Comparison<'_>,
-    ) -> Result<Found, AllocError>
-        requires { AreLists self.now lists.now.entries }
+    // What is found by a comparison, where these are the values of the source's table, the shortest first.
+    fn find(&self, comparison: Comparison<'_>, all: &[(u64, Vec<u8>)]) -> Result<Found, AllocError>
+        requires { IsListed self.now.source (now comparison.0.1) all.now }
         ensures { IfOk result (λ found. IsFound self.now comparison.entry found) }
     {
-        if let Some(all) = lists.get(&comparison.0.1) {
-            return compare(
-                self.alloc,
-                self.source,
-                self.target,
-                self.map,
-                comparison,
-                all,
-            );
-        }
-        let texts = listed_in(self.source, comparison.0.1);
-        let all = by_length(self.alloc, self.source.count(), texts)?;
         compare(
             self.alloc,
             self.source,
             self.target,
             self.map,
             comparison,
-            &all,
+            all,
         )
+    }
+
+    // The same, where the source's table isn't listed.
+    fn list_and_find(&self, comparison: Comparison<'_>) -> Result<Found, AllocError>
+        ensures { IfOk result (λ found. IsFound self.now comparison.entry found) }
+    {
+        let texts = listed_in(self.source, comparison.0.1);
+        let all = by_length(self.alloc, self.source.count(), texts)?;
+        self.find(comparison, all.as_slice())
     }
 
     // What is found by a comparison: what was kept, or what is found now, which is kept where it depends on the profiles alone.
     fn recall_or_find(
         &self,
         compared: &mut Compared,
-        lists: &mut IndexMap<Option<&'a [u8]>, Listing<'a>>,
         comparison: Comparison<'a>,
     ) -> Result<Arc<Found>, AllocError>
-        requires lists { AreLists self.now lists.old.entries }
-        requires compared { AreCompared self.now.source self.now.target compared.old }
-        ensures lists { OnOk result (AreLists self.now lists.new.entries) }
+        requires { AreCompared self.now.source self.now.target compared.old }
         ensures compared { AreCompared self.now.source self.now.target compared.new }
         ensures found { IfOk result (λ found. IsFound self.now comparison.entry (arc_value found)) }
     {
         if let Some(kept) = compared.recalled(comparison)? {
             return Ok(kept);
         }
-        self.list(lists, comparison.0.1)?;
-        let found = Arc::new(self.alloc, self.find(lists, comparison)?)?;
+        let all = self.listing(compared, comparison.0.1)?;
+        let found = Arc::new(self.alloc, self.find(comparison, all.as_slice())?)?;
         compared.keep(comparison, &found)?;
         Ok(found)
     }
@@ -172,10 +153,9 @@ impl<'a> MapContext<'a> {
         ensures context { IfOk result (λ s. s ≡ self.now) }
         ensures compared { AreCompared self.now.source self.now.target compared.new }
     {
-        let mut lists = IndexMap::new(self.alloc);
         let mut known = IndexMap::with_capacity(self.alloc, comparisons.len())?;
         for comparison in comparisons {
-            let found = self.recall_or_find(compared, &mut lists, comparison)?;
+            let found = self.recall_or_find(compared, comparison)?;
             known.insert(comparison, found)?;
         }
         Ok(MapContext {
@@ -218,14 +198,13 @@ impl<'a> MapContext<'a> {
         most: Option<u32>,
     ) -> Result<bool, AllocError>
         requires { Asks (now name) most }
-        ensures { IfOk result (λ b. b ≡
-            list_any (is_outside_named self.now (now name.entry) most) (given_at self.now (now origin.entry.0) (now origin.entry.1) len)) }
+        ensures { IfOk result (λ b. b ≡ some_given self.now (origin.entry, name.entry) len most) }
     {
         let comparison = (origin, name);
         if let Some(found) = self.known.get(&comparison) {
             return Ok(some_length(found.lengths.as_slice(), len, most));
         }
-        let found = self.find(&IndexMap::new(self.alloc), comparison)?;
+        let found = self.list_and_find(comparison)?;
         Ok(some_length(found.lengths.as_slice(), len, most))
     }
 
@@ -236,8 +215,7 @@ impl<'a> MapContext<'a> {
         listed: &'n [u8],
         len: Option<u32>,
     ) -> bool
-        ensures { result ≡
-            some_unrowed self.now.source.count len (rows_named self.now.map.tables rows.now) (values_named self.now.source.tables (Some listed.now)) }
+        ensures { result ≡ some_value_unrowed self.now rows.now listed.now len }
     {
         let origin: Origin<'n> = (Some(rows), Some(listed));
         let comparison: Comparison<'n> = (origin, None);

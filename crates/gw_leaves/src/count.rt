@@ -2,6 +2,7 @@
 ghost use Rattle.std.specs.Prelude.{◌≡◌};
 ghost use Rattle.gw_maplang.specs.Seen.{condition_some};
 ghost use Rattle.gw_leaves.specs.Counts as spec;
+ghost use Rattle.gw_leaves.specs.own.Held as held;
 ghost use Rattle.gw_leaves.specs.own.Held.{leaves_value, known_value};
 ghost use Rattle.gw_profile.specs.Numbered.{some_field};
 ghost use Rattle.gw_leaves.specs.Uses.{CountsRule, sources_value, target_value, map_tables};
@@ -35,7 +36,7 @@ fn reference_count(known: Known<'_>, field: Option<&FieldShape>) -> Interval
 
 // Of the source field of a reference.
 fn field_count(sources: Sources<'_, '_, '_, '_, '_>, from: &Reference) -> Interval
-    ensures { interval result ≡ saturated (spec.field_count (sources_value sources.entry) (reference from.now)) }
+    ensures { interval result ≡ saturated (held.field_count sources.entry from.now) }
 {
     let known = segment_at(sources.scope, &from.place);
     reference_count(known, field_of(known.fields, from.field))
@@ -47,7 +48,7 @@ fn chosen_count(
     from: &Reference,
     condition: &Option<Condition>,
 ) -> Interval
-    ensures { interval result ≡ saturated (spec.chosen_count (condition_some condition.now) (spec.field_count (sources_value sources.entry) (reference from.now))) }
+    ensures { interval result ≡ saturated (spec.chosen_count (condition_some condition.now) (held.field_count sources.entry from.now)) }
 {
     let count = field_count(sources, from);
     match condition {

@@ -1,33 +1,22 @@
 //! What holds of the definitions.
-ghost use Rattle.std.specs.Prelude.{◌≡◌, ◌↔◌, ◌⊎◌, ◌≤◌, ℕ, true, false, nat_lt, List, Option, Some, IfSome, IsSomeAnd};
-ghost use Rattle.gw_profile.specs.declared.shape.Usage.TheVariants.{R, X};
+ghost use Rattle.std.specs.Prelude.{◌≡◌, ◌↔◌, ◌≤◌, ℕ, true, false, nat_lt, List, Option, Some, IfSome};
 ghost use Rattle.gw_profile.specs.Among.{Among};
 ghost use Rattle.gw_profile.specs.Shapes.{SubValue};
 ghost use Rattle.gw_profile.specs.declared.shape.Count.{Count};
 ghost use Rattle.gw_profile.specs.Lengths.{measure};
 ghost use Rattle.gw_resolve.specs.Intervals.{Interval, sum, product, is_sure, is_never, is_within};
-ghost use Rattle.gw_resolve.specs.Places.{known};
-ghost use Rattle.gw_resolve.specs.Resolved.{Reference, of_field};
+ghost use Rattle.gw_resolve.specs.Resolved.{Reference};
 ghost use Rattle.gw_resolve.specs.Seen.{saturated};
 ghost use Rattle.gw_leaves.specs.declared.shape.Presence.TheVariants.{Always, Never};
-ghost use Rattle.gw_leaves.specs.Leaves.{Sources, Values, IsOf, Shape, listed, at_field, source_shape, may_be_unlisted, may_be_long, is_included};
-ghost use Rattle.gw_profile.specs.Numbered.{comp_of, sub_of};
+ghost use Rattle.gw_leaves.specs.Leaves.{Sources, Values, IsOf, Shape, listed, presence_of, IsRequiredAt, IsForbiddenAt, MeetsSub, may_be_unlisted, may_be_long, is_included};
 
 /// A text that is taken from a field is always there exactly where its segment is, its field is required and comes at least once,
 /// and its component and subcomponent are required.
 /// It is never there exactly where its segment never is, or the field, the component or the subcomponent is forbidden.
 #[tactic(auto, using(crate::proofs::Presences::always_there, crate::proofs::Presences::never_there))]
 pub fn presence_of_a_leaf()
-    ensures always { (s : Sources) (from : Reference) (comp sub : ℕ) → ((source_shape s (of_field from comp sub)).presence ≡ Always) ↔
-        ((is_never (known s.scope from.place).count.greatest ≡ false) × (1 ≤ (known s.scope from.place).count.least)
-        × IsSomeAnd (at_field s from) (λ f. (f.usage ≡ R) × (1 ≤ f.card.min))
-        × IsSomeAnd (comp_of (at_field s from) comp) (λ c. c.usage ≡ R)
-        × IsSomeAnd (sub_of (comp_of (at_field s from) comp) sub) (λ t. t.usage ≡ R)) }
-    ensures never { (s : Sources) (from : Reference) (comp sub : ℕ) → ((source_shape s (of_field from comp sub)).presence ≡ Never) ↔
-        ((is_never (known s.scope from.place).count.greatest ≡ true)
-        ⊎ IsSomeAnd (at_field s from) (λ f. f.usage ≡ X)
-        ⊎ IsSomeAnd (comp_of (at_field s from) comp) (λ c. c.usage ≡ X)
-        ⊎ IsSomeAnd (sub_of (comp_of (at_field s from) comp) sub) (λ t. t.usage ≡ X)) }
+    ensures always { (s : Sources) (from : Reference) (comp sub : ℕ) → (presence_of s from comp sub ≡ Always) ↔ IsRequiredAt s from comp sub }
+    ensures never { (s : Sources) (from : Reference) (comp sub : ℕ) → (presence_of s from comp sub ≡ Never) ↔ IsForbiddenAt s from comp sub }
 {}
 
 /// Counts that end at the cap are added and multiplied as counts without an end, and compare alike with every number of a profile.
@@ -47,9 +36,7 @@ pub fn counts_at_the_cap()
 /// None can be too long exactly where each has at most that length in the count of the target.
 #[tactic(auto, using(crate::proofs::Fitting::all_tabled, crate::proofs::Fitting::all_listed, crate::proofs::Fitting::all_short))]
 pub fn values_that_are_included()
-    ensures included { (to : Count) (shape : Shape) (s : SubValue) (table : Option (List (List ℕ))) → (is_included to shape s table ≡ true) ↔
-        ((s.usage ≡ R → shape.presence ≡ Always) × (s.usage ≡ X → shape.presence ≡ Never)
-        × ((shape.presence ≡ Never) ⊎ ((may_be_unlisted shape.values table ≡ false) × (may_be_long to shape.values s.len ≡ false)))) }
+    ensures included { (to : Count) (shape : Shape) (s : SubValue) (t : Option (List (List ℕ))) → (is_included to shape s t ≡ true) ↔ MeetsSub to shape s t }
     ensures tabled { (v : Values) (table : List (List ℕ)) → may_be_unlisted v (Some table) ≡ false → (x : List ℕ) → IsOf v x → Among x table }
     ensures values { (texts table : List (List ℕ)) →
         (may_be_unlisted (listed texts) (Some table) ≡ false) ↔ ((x : List ℕ) → Among x texts → Among x table) }

@@ -6,7 +6,7 @@ ghost use Rattle.gw_maplang.specs.Seen.{now};
 ghost use Rattle.gw_leaves.specs.Leaves as spec;
 ghost use Rattle.gw_profile.specs.Numbered.{some_sub};
 ghost use Rattle.gw_leaves.specs.Uses.{sources_value};
-ghost use Rattle.gw_resolve.specs.Seen.{source as seen_source};
+ghost use Rattle.gw_leaves.specs.own.Held.{shape_at};
 ghost use Rattle.gw_leaves.specs.Texts.{shape_value, some_items};
 
 use crate::known::at_field;
@@ -29,8 +29,7 @@ pub(crate) fn source_sub<'e>(
     sources: Sources<'_, '_, '_, 'e, '_>,
     source: &Source,
 ) -> Option<&'e SubShape>
-    ensures { (spec.source_shape (sources_value sources.entry) (seen_source source.now)).values ≡
-        spec.sub_values (sources_value sources.entry).profile (some_sub result) }
+    ensures { (shape_at sources.entry source.now).values ≡ spec.sub_values (sources_value sources.entry).profile (some_sub result) }
 {
     match source {
         Source::OfField(from, at) => sub_of(comp_of(at_field(sources, from), at.comp), at.sub),

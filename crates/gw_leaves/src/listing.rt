@@ -11,29 +11,25 @@ use gw_profile::{Count, Table, measure};
 use std::alloc::{AllocError, Global};
 
 /// Values, each behind its length.
-pub(crate) type Listing<'a> = Vec<(u64, &'a [u8])>;
+pub(crate) type Listing = Vec<(u64, Vec<u8>)>;
 
 // These values, each behind its length.
-fn measured<'a>(
-    alloc: Global,
-    count: Count,
-    texts: &'a [Vec<u8>],
-) -> Result<Listing<'a>, AllocError>
+fn measured(alloc: Global, count: Count, texts: &[Vec<u8>]) -> Result<Listing, AllocError>
     ensures { IfOk result (λ made. map spec.sized made.items ≡ map (λ v. (measured count v.items, v.items)) texts.now) }
 {
     let mut made = Vec::new(alloc);
     for text in texts {
-        made.push((measure(count, text), text.as_slice()))?;
+        made.push((measure(count, text), Vec::from_slice(alloc, text)?))?;
     }
     Ok(made)
 }
 
 /// These values, the shortest first.
-pub(crate) fn by_length<'a>(
+pub(crate) fn by_length(
     alloc: Global,
     count: Count,
-    texts: &'a [Vec<u8>],
-) -> Result<Listing<'a>, AllocError>
+    texts: &[Vec<u8>],
+) -> Result<Listing, AllocError>
     ensures { IfOk result (λ made. spec.IsListing count (items_all texts.now) made.items) }
 {
     let mut made = measured(alloc, count, texts)?;
@@ -48,11 +44,11 @@ fn has_row(rows: Option<&Rows>, text: &[u8]) -> bool
 }
 
 /// The length of the first of these values that has no row.
-pub(crate) fn first_unrowed(rows: Option<&Rows>, values: &[(u64, &[u8])]) -> Option<u64>
+pub(crate) fn first_unrowed(rows: Option<&Rows>, values: &[(u64, Vec<u8>)]) -> Option<u64>
     ensures { result ≡ spec.first_length (spec.is_lacking (rows_value rows.entry)) values.now }
 {
     for value in values {
-        if !has_row(rows, value.1) {
+        if !has_row(rows, value.1.as_slice()) {
             return Some(value.0);
         }
     }
@@ -60,11 +56,11 @@ pub(crate) fn first_unrowed(rows: Option<&Rows>, values: &[(u64, &[u8])]) -> Opt
 }
 
 /// The length of the first of these values that isn't in the table.
-pub(crate) fn first_unlisted(table: Option<&Table>, values: &[(u64, &[u8])]) -> Option<u64>
+pub(crate) fn first_unlisted(table: Option<&Table>, values: &[(u64, Vec<u8>)]) -> Option<u64>
     ensures { result ≡ spec.first_length (spec.is_missing (spec.some_values table.entry)) values.now }
 {
     for value in values {
-        if !is_listed(table, value.1) {
+        if !is_listed(table, value.1.as_slice()) {
             return Some(value.0);
         }
     }

@@ -1,9 +1,9 @@
 //! The rule on lookups: without a value for texts that have no row, each text of the source needs one.
 ghost use Rattle.std.specs.Prelude.{flat_map, OnOk};
 ghost use Rattle.gw_leaves.specs.Components as spec;
-ghost use Rattle.gw_leaves.specs.own.Held.{leaves_value, others_value};
+ghost use Rattle.gw_leaves.specs.own.Seen as seen;
 ghost use Rattle.gw_leaves.specs.Uses.{sources_value, map_tables, rules_value};
-ghost use Rattle.gw_resolve.specs.Seen.{Notes, at_leaf, leaf as seen_leaf, mark as seen_mark, rule as seen_rule};
+ghost use Rattle.gw_resolve.specs.Seen.{Notes, at_leaf, rule as seen_rule};
 
 use crate::count::walking;
 use crate::given::is_unrowed;
@@ -19,7 +19,7 @@ fn check_leaf(
     mark: FailureSite,
     leaf: &ResolvedLeaf,
 ) -> Result<(), AllocError>
-    ensures { OnOk result (Notes found.old found.new (spec.leaf_lookups (sources_value sources.entry) (seen_mark mark) (seen_leaf (map_tables sources.entry) leaf.now))) }
+    ensures { OnOk result (Notes found.old found.new (seen.leaf_lookups sources.entry mark leaf.now)) }
 {
     let ResolvedLeaf::LookedUp(name, source) = leaf else {
         return Ok(());
@@ -34,8 +34,7 @@ fn check_others(
     mark: FailureSite,
     others: &[Alternative],
 ) -> Result<(), AllocError>
-    ensures { OnOk result
-        (Notes found.old found.new (flat_map (spec.other_lookups (sources_value sources.entry) (seen_mark mark)) (others_value sources.entry others.now))) }
+    ensures { OnOk result (Notes found.old found.new (seen.other_lookups sources.entry mark others.now)) }
 {
     for other in others {
         let mark = FailureSite {
@@ -66,8 +65,7 @@ fn check_leaves(
     field: u32,
     leaves: &[At],
 ) -> Result<(), AllocError>
-    ensures { OnOk result
-        (Notes found.old found.new (flat_map (spec.lookup_failures (sources_value sources.entry) field) (leaves_value sources.entry leaves.now))) }
+    ensures { OnOk result (Notes found.old found.new (seen.lookups sources.entry field leaves.now)) }
 {
     for at in leaves {
         check_lookup(found, sources, field, at)?;

@@ -1,5 +1,5 @@
 //! What fails of a segment, by its line.
-ghost use Rattle.std.specs.Prelude.{◌≡◌, None, false};
+ghost use Rattle.std.specs.Prelude.{◌≡◌};
 ghost use Rattle.gw_leaves.specs.Components as spec;
 ghost use Rattle.gw_resolve.specs.Seen.{mark as seen_mark};
 
@@ -22,7 +22,7 @@ pub fn field_mark(number: u32, line: u32) -> FailureSite
 
 /// The component and the subcomponent of a leaf in its field.
 pub(crate) fn leaf_mark(field: u32, at: &At) -> FailureSite
-    ensures { seen_mark result ≡ record { line = at.now.line; child = None; missing = false; field = field; comp = at.now.place.comp; sub = at.now.place.sub; count = None } }
+    ensures { seen_mark result ≡ spec.sub_in (spec.comp_in (spec.field_mark field at.now.line) at.now.place.comp) at.now.place.sub }
 {
     FailureSite {
         comp: at.place.comp,

@@ -1,10 +1,9 @@
 //! Where the texts of leaves stand in their field.
-ghost use Rattle.std.specs.Prelude.{◌≡◌, ◌||◌};
-ghost use Rattle.gw_leaves.specs.Leaves as leaves_spec;
-ghost use Rattle.gw_leaves.specs.Uses.{sources_value, map_tables};
-ghost use Rattle.gw_leaves.specs.own.Held.{leaves_value};
+ghost use Rattle.std.specs.Prelude.{◌≡◌};
+ghost use Rattle.gw_leaves.specs.Leaves.{is_always, is_absent};
+ghost use Rattle.gw_leaves.specs.Uses.{sources_value};
+ghost use Rattle.gw_leaves.specs.own.Held.{leaves_value, presence_at};
 ghost use Rattle.gw_leaves.specs.own.Parts as spec;
-ghost use Rattle.gw_resolve.specs.Seen.{at_leaf};
 
 use crate::presence::{at_presence, is_absent, is_always};
 use crate::sources::Sources;
@@ -20,8 +19,7 @@ pub(crate) enum Part {
 
 // Whether the place is in the part, and always has a text.
 fn is_sure_in(sources: Sources<'_, '_, '_, '_, '_>, part: Part, at: &At) -> bool
-    ensures { result ≡ spec.is_sure_in part at.now.place.comp at.now.place.sub
-        (leaves_spec.is_always (leaves_spec.at_presence (sources_value sources.entry) (at_leaf (map_tables sources.entry) at.now))) }
+    ensures { result ≡ spec.is_sure_in part at.now.place.comp at.now.place.sub (is_always (presence_at sources.entry at.now)) }
 {
     let (comp, sub) = (at.place.comp, at.place.sub);
     match part {
@@ -35,8 +33,7 @@ fn is_sure_in(sources: Sources<'_, '_, '_, '_, '_>, part: Part, at: &At) -> bool
 
 // Whether the place isn't beside the part, or never has a text.
 fn is_not_beside(sources: Sources<'_, '_, '_, '_, '_>, part: Part, at: &At) -> bool
-    ensures { result ≡ spec.is_not_beside part at.now.place.comp at.now.place.sub
-        (leaves_spec.is_absent (leaves_spec.at_presence (sources_value sources.entry) (at_leaf (map_tables sources.entry) at.now))) }
+    ensures { result ≡ spec.is_not_beside part at.now.place.comp at.now.place.sub (is_absent (presence_at sources.entry at.now)) }
 {
     let (comp, sub) = (at.place.comp, at.place.sub);
     match part {
@@ -74,8 +71,7 @@ pub(crate) fn none_beside(sources: Sources<'_, '_, '_, '_, '_>, part: Part, leav
 
 /// Whether the part has a text where what it is a part of has one: some place of the part always has a text, or none beside it ever has.
 pub(crate) fn is_sure(sources: Sources<'_, '_, '_, '_, '_>, part: Part, leaves: &[At]) -> bool
-    ensures { result ≡ (spec.some_sure (sources_value sources.entry) part (leaves_value sources.entry leaves.now)
-        || spec.none_beside (sources_value sources.entry) part (leaves_value sources.entry leaves.now)) }
+    ensures { result ≡ spec.is_sure (sources_value sources.entry) part (leaves_value sources.entry leaves.now) }
 {
     some_sure(sources, part, leaves) || none_beside(sources, part, leaves)
 }

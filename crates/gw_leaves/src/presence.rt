@@ -2,11 +2,11 @@
 ghost use Rattle.std.specs.Prelude.{◌≡◌, ◌&&◌, nat_le, if◌then◌else◌};
 ghost use Rattle.gw_resolve.specs.Intervals.{is_sure};
 ghost use Rattle.gw_leaves.specs.Leaves as spec;
-ghost use Rattle.gw_leaves.specs.own.Held.{known_value, others_value};
+ghost use Rattle.gw_leaves.specs.own.Held.{known_value, others_value, shape_at, presence_at};
 ghost use Rattle.gw_profile.specs.Numbered.{some_field, some_comp, some_sub};
 ghost use Rattle.gw_leaves.specs.Uses.{sources_value, map_tables};
 ghost use Rattle.gw_resolve.specs.Resolved.{of_field};
-ghost use Rattle.gw_resolve.specs.Seen.{interval, reference, source as seen_source, leaf as seen_leaf, at_leaf};
+ghost use Rattle.gw_resolve.specs.Seen.{interval, reference, leaf as seen_leaf};
 ghost use Rattle.gw_leaves.specs.declared.shape.Presence.TheVariants as presences;
 
 use crate::known::{Known, at_field, segment_at};
@@ -131,7 +131,7 @@ pub(crate) fn place_presence(
 
 /// Of the text of a source.
 pub(crate) fn source_presence(sources: Sources<'_, '_, '_, '_, '_>, source: &Source) -> Presence
-    ensures { result ≡ (spec.source_shape (sources_value sources.entry) (seen_source source.now)).presence }
+    ensures { result ≡ (shape_at sources.entry source.now).presence }
 {
     match source {
         Source::OfField(from, at) => place_presence(sources, from, *at),
@@ -186,7 +186,7 @@ fn others_presence(sources: Sources<'_, '_, '_, '_, '_>, others: &[Alternative])
 
 /// Of the text of a place.
 pub(crate) fn at_presence(sources: Sources<'_, '_, '_, '_, '_>, at: &At) -> Presence
-    ensures { result ≡ spec.at_presence (sources_value sources.entry) (at_leaf (map_tables sources.entry) at.now) }
+    ensures { result ≡ presence_at sources.entry at.now }
 {
     either(
         leaf_presence(sources, &at.leaf),

@@ -4,13 +4,14 @@ ghost use Rattle.std.specs.List.{list_any};
 ghost use Rattle.gw_profile.specs.Numbered.{some_sub};
 ghost use Rattle.gw_profile.specs.Seen.{profile_value};
 ghost use Rattle.gw_maplang.specs.Shapes.{TableValue};
-ghost use Rattle.gw_maplang.specs.Seen.{now, condition as seen_condition, condition_some};
+ghost use Rattle.gw_maplang.specs.Seen.{now, condition as seen_condition};
 ghost use Rattle.gw_leaves.specs.Leaves.{sub_values};
 ghost use Rattle.gw_leaves.specs.Reached as spec;
-ghost use Rattle.gw_leaves.specs.own.Held.{is_listed, leaves_value, others_value};
-ghost use Rattle.gw_leaves.specs.Uses.{sources_value, map_tables, rules_value};
+ghost use Rattle.gw_leaves.specs.own.Held.{is_listed, others_value};
+ghost use Rattle.gw_leaves.specs.own.Seen as seen;
+ghost use Rattle.gw_leaves.specs.Uses.{sources_value, map_tables, rules_value, condition_failures};
 ghost use Rattle.gw_resolve.specs.Resolved.{alternatives};
-ghost use Rattle.gw_resolve.specs.Seen.{Notes, at_leaf, leaf as seen_leaf, mark as seen_mark, reference, rule as seen_rule};
+ghost use Rattle.gw_resolve.specs.Seen.{Notes, at_leaf, leaf as seen_leaf, reference, rule as seen_rule};
 
 use crate::comparison::fits;
 use crate::count::walking;
@@ -74,8 +75,7 @@ pub fn check_condition(
     from: &Reference,
     condition: &Condition,
 ) -> Result<(), AllocError>
-    ensures { OnOk result (Notes found.old found.new
-        (spec.condition_failures (sources_value sources.entry) (seen_mark mark) (reference from.now) (Some (seen_condition condition.now)))) }
+    ensures { OnOk result (Notes found.old found.new (condition_failures sources.entry mark from.now (Some condition.now))) }
 {
     note(found, 13, mark, !can_hold(sources, from, condition))
 }
@@ -88,8 +88,7 @@ fn check_chosen(
     from: &Reference,
     condition: &Option<Condition>,
 ) -> Result<(), AllocError>
-    ensures { OnOk result (Notes found.old found.new
-        (spec.condition_failures (sources_value sources.entry) (seen_mark mark) (reference from.now) (condition_some condition.now))) }
+    ensures { OnOk result (Notes found.old found.new (condition_failures sources.entry mark from.now condition.now)) }
 {
     match condition {
         None => Ok(()),
@@ -157,8 +156,7 @@ fn check_places(
     field: u32,
     leaves: &[At],
 ) -> Result<(), AllocError>
-    ensures { OnOk result
-        (Notes found.old found.new (flat_map (spec.place_failures (sources_value sources.entry) field) (leaves_value sources.entry leaves.now))) }
+    ensures { OnOk result (Notes found.old found.new (seen.unreached_failures sources.entry field leaves.now)) }
 {
     for at in leaves {
         check_place(found, sources, field, at)?;

@@ -1,9 +1,7 @@
 //! The rules on what can stand at one place: usage, table and length.
-ghost use Rattle.std.specs.Prelude.{◌≡◌, ◌&&◌, ◌++◌, not, OnOk};
+ghost use Rattle.std.specs.Prelude.{◌≡◌, OnOk};
 ghost use Rattle.gw_validate.specs.Breaches.{is_required, is_forbidden};
-ghost use Rattle.gw_resolve.specs.Failures.{fails};
-ghost use Rattle.gw_leaves.specs.Leaves as leaves_spec;
-ghost use Rattle.gw_resolve.specs.Seen.{Notes, mark as seen_mark};
+ghost use Rattle.gw_resolve.specs.Seen.{Notes};
 ghost use Rattle.gw_leaves.specs.own.Seen as seen;
 
 use crate::context::MapContext;
@@ -34,9 +32,7 @@ pub(crate) fn check_usage(
     usage: Usage,
     presence: Presence,
 ) -> Result<(), AllocError>
-    ensures { OnOk result (Notes found.old found.new
-        (fails 5 (seen_mark mark) (is_required usage && not (leaves_spec.is_always presence))
-        ++ fails 11 (seen_mark mark) (is_forbidden usage && not (leaves_spec.is_absent presence)))) }
+    ensures { OnOk result (Notes found.old found.new (seen.usage_failures mark usage presence)) }
 {
     note(found, 5, mark, is_required(usage) && !is_always(presence))?;
     note(found, 11, mark, is_forbidden(usage) && !is_absent(presence))

@@ -1,13 +1,14 @@
 -- The items of a level one by one, as the program counts them.
-use Rattle.std.specs.Prelude.{◌≡◌, ℕ, ◌≤◌, List, length, take, drop}
+use Rattle.std.specs.Prelude.{◌≡◌, ℕ, ◌≤◌, List, Option, length, take, drop}
 use Rattle.gw_maplang.specs.Shapes.{TableValue}
 use Rattle.gw_resolve.specs.declared.resolved.Item.{Item}
+use Rattle.gw_resolve.specs.declared.resolved.FieldCondition.{FieldCondition}
 use Rattle.gw_resolve.specs.Intervals.{Interval, never, product}
 use Rattle.gw_resolve.specs.Places.{Element, count_at, count_if, within}
 use Rattle.gw_resolve.specs.Resolved.{Items, no_items, segment_item, group_item, flat_item}
 use Rattle.gw_leaves.specs.Counts.{chosen_count}
 use Rattle.gw_check.specs.Levels.{its, beyond, items_count}
-use Rattle.gw_resolve.specs.Seen.{interval, saturated, with_item, all_items}
+use Rattle.gw_resolve.specs.Seen.{interval, saturated, some_condition, with_item, all_items}
 use Rattle.gw_resolve.specs.declared.interval.Interval as declared
 
 -- how often the first item comes
@@ -16,6 +17,11 @@ first_count scope no_items = never
 first_count scope (segment_item s rest) = chosen_count s.condition (count_if scope s.place)
 first_count scope (group_item g items rest) = chosen_count g.condition (count_at scope g.place)
 first_count scope (flat_item f items rest) = product (chosen_count f.condition (count_at scope f.place)) (items_count (within scope f.place) items)
+
+-- the program's count of those that meet a condition, if there is one, by its count of all
+abbrev pub CountsChosen : Option FieldCondition → declared.Interval → declared.Interval → Type 0
+CountsChosen asked count chosen =
+    (full : Interval) → interval count ≡ saturated full → interval chosen ≡ saturated (chosen_count (some_condition asked) full)
 
 -- the program's count of one item, and of many, whatever the map's tables are
 abbrev pub CountsOne : List Element → Item → declared.Interval → Type 0

@@ -3,12 +3,17 @@ use Rattle.std.specs.Prelude.{ℕ, ◌&&◌, not, nat_lt, List, ◌++◌, map, O
 use denote.Ref.{Bor}
 use Rattle.gw_profile.specs.declared.shape.FieldShape.{FieldShape}
 use Rattle.gw_profile.specs.Shapes.{FieldValue}
-use Rattle.gw_profile.specs.Seen.{field as field_value, profile_value}
+use Rattle.gw_profile.specs.declared.node.Node.{Node}
+use Rattle.gw_profile.specs.Seen as profiles
+use Rattle.gw_profile.specs.Seen.{field as field_value, forest, profile_value}
+use Rattle.gw_maplang.specs.Seen as maps
 use Rattle.gw_maplang.specs.Seen.{map_value}
+use Rattle.gw_maplang.specs.Shapes.{TableValue}
 use Rattle.gw_validate.specs.Breaches.{is_forbidden}
 use Rattle.gw_resolve.specs.declared.resolved.Rule.{Rule}
 use Rattle.gw_resolve.specs.declared.resolved.Item.{Item}
 use Rattle.gw_resolve.specs.declared.resolved.LeftOut.{LeftOut}
+use Rattle.gw_resolve.specs.declared.named.ResolvedMap.{ResolvedMap}
 use Rattle.gw_resolve.specs.Failures.{Mark as Told, Failure, fails}
 use Rattle.gw_resolve.specs.Resolved.{FieldCondition}
 use Rattle.gw_resolve.specs.Intervals.{Interval, is_never, is_within}
@@ -18,6 +23,7 @@ use Rattle.gw_leaves.specs.Context.{ContextValue}
 use Rattle.gw_leaves.specs.Uses.{sources_value, target_value, map_tables, some_rule, rules_value, rule_count}
 use Rattle.gw_check.specs.declared.often.Asked.{Asked}
 use Rattle.gw_check.specs.Answers.{unlabelled}
+use Rattle.gw_check.specs.Checked as checked
 use Rattle.gw_check.specs.Fields as spec
 use Rattle.gw_check.specs.Reads as reads
 use Rattle.gw_check.specs.Reached as reached
@@ -66,8 +72,28 @@ asked_failures s = reached.asked_failures (sources_value s)
 abbrev pub failures : ContextValue → List Item → List LeftOut → List Failure
 failures s items drops = typed.failures (profile_value s.source) (profile_value s.target) (unlabelled (map_value s.map) items drops)
 
+-- the same of the map without labels
+abbrev pub resolved_failures : ContextValue → ResolvedMap → List Failure
+resolved_failures s named = failures s named.items.items named.drops.items
+
+-- of all rules
+abbrev pub all_failures : profiles.Contents → profiles.Contents → maps.Contents → List Failure
+all_failures source target map = checked.all_failures (profile_value source) (profile_value target) (map_value map)
+
 -- ---- what is passed over
+
+-- of these nodes, by the items and drops of a map with these tables
+abbrev pub passed_over : List TableValue → List Item → List LeftOut → List Node → List reads.SourceField
+passed_over tables items drops nodes = reads.passed_over (all_items tables items) (map left_out drops) (forest nodes)
 
 -- of the source of a map
 abbrev pub unread : ContextValue → List Item → List LeftOut → List reads.SourceField
-unread s items drops = reads.passed_over (all_items s.map.tables items) (map left_out drops) (profile_value s.source).nodes
+unread s items drops = passed_over s.map.tables items drops s.source.nodes
+
+-- the same of the map without labels
+abbrev pub resolved_unread : ContextValue → ResolvedMap → List reads.SourceField
+resolved_unread s named = unread s named.items.items named.drops.items
+
+-- none where labels can't be looked up
+abbrev pub all_unread : profiles.Contents → profiles.Contents → maps.Contents → List reads.SourceField
+all_unread source target map = checked.unread (profile_value source) (profile_value target) (map_value map)

@@ -74,15 +74,15 @@ some_unrowed count len rows texts = list_any (λ t. fits len (measure count t) &
 -- ---- texts by their lengths
 
 abbrev pub Sized : Type 0
-Sized = ℕ × Bor (List ℕ)
+Sized = ℕ × Vec ℕ
 
 abbrev pub sized : Sized → ℕ × List ℕ
-sized p = (p.0, p.1.now)
+sized p = (p.0, p.1.items)
 
 -- the length of the first of these texts that passes a test
 abbrev pub first_length : (List ℕ → Bool) → List Sized → Option ℕ
 first_length test [] = None
-first_length test (p ∷ ps) = if test p.1.now then Some p.0 else first_length test ps
+first_length test (p ∷ ps) = if test p.1.items then Some p.0 else first_length test ps
 
 -- there is a length, and it isn't greater
 abbrev pub is_within : Option ℕ → Option ℕ → Bool
@@ -229,14 +229,22 @@ names_eq x y = bytes_eq x.now y.now
 abbrev pub comparisons_eq : Comparison → Comparison → Bool
 comparisons_eq x y = (option_eq names_eq x.0.0 y.0.0 && option_eq names_eq x.0.1 y.0.1) && option_eq names_eq x.1 y.1
 
+-- of this comparison: a text that isn't longer than the length is given something that isn't in the target's table, and is longer than the most
+abbrev pub some_given : ContextValue → Comparison → Option ℕ → Option ℕ → Bool
+some_given s c len most = list_any (is_outside_named s (now c.1) most) (given_at s (now c.0.0) (now c.0.1) len)
+
+-- a value of the source's table of one name that isn't longer has no row in the map's table of the other
+abbrev pub some_value_unrowed : ContextValue → List ℕ → List ℕ → Option ℕ → Bool
+some_value_unrowed s rows table len = some_unrowed s.source.count len (rows_named s.map.tables rows) (values_named s.source.tables (Some table))
+
 -- these are the lengths where what is given isn't in the target's table
 abbrev pub IsCompared : ContextValue → Comparison → Lengths → Type 0
 IsCompared s c lengths = (len most : Option ℕ) → Asks (now c.1) most →
-    some_length len most lengths ≡ list_any (is_outside_named s (now c.1) most) (given_at s (now c.0.0) (now c.0.1) len)
+    some_length len most lengths ≡ some_given s c len most
 
 -- the values of the source's table of this name, by their lengths
-abbrev pub IsListed : ContextValue → Option (Bor (List ℕ)) → List Sized → Type 0
-IsListed s name all = IsListing s.source.count (values_named s.source.tables (now name)) all
+abbrev pub IsListed : profiles.Contents → Option (List ℕ) → List Sized → Type 0
+IsListed source name all = IsListing source.count (values_named source.tables name) all
 
 -- what is found by a comparison
 pub record IsFound (s : ContextValue) (c : Comparison) (found : Found) : Type 0 where
@@ -247,10 +255,6 @@ pub record IsFound (s : ContextValue) (c : Comparison) (found : Found) : Type 0 
 abbrev pub AreKept : ContextValue → List (Comparison × Arc Found Global) → Type 0
 AreKept s known = (c : Comparison) (found : Arc Found Global) → Some found ≡ lookup (comparisons_eq c) known → IsFound s c (arc_value found)
 
--- the tables of the source that were listed
-abbrev pub AreLists : ContextValue → List (Option (Bor (List ℕ)) × Vec Sized) → Type 0
-AreLists s lists = (name : Option (Bor (List ℕ))) (all : Vec Sized) → Some all ≡ lookup (option_eq names_eq name) lists → IsListed s name all.items
-
 -- ---- what is kept of copies, whatever the map
 
 -- the table of the source whose texts are copied, and that of the target, if one is named
@@ -260,6 +264,10 @@ Copied = Vec ℕ × Option (Vec ℕ)
 abbrev pub texts_eq : Vec ℕ → Vec ℕ → Bool
 texts_eq x y = bytes_eq x.items y.items
 
+-- a name, if there is one
+abbrev pub name_of : Option (Vec ℕ) → Option (List ℕ)
+name_of name = option_map (λ (v : Vec ℕ). v.items) name
+
 abbrev pub copies_eq : Copied → Copied → Bool
 copies_eq x y = texts_eq x.0 y.0 && option_eq texts_eq x.1 y.1
 
@@ -267,16 +275,21 @@ copies_eq x y = texts_eq x.0 y.0 && option_eq texts_eq x.1 y.1
 pub record IsCopyOf (c : Comparison) (k : Copied) : Type 0 where
   pub rows : now c.0.0 ≡ None
   pub listed : now c.0.1 ≡ Some k.0.items
-  pub name : now c.1 ≡ option_map (λ (v : Vec ℕ). v.items) k.1
+  pub name : now c.1 ≡ name_of k.1
 
 -- what is kept is found by each comparison of its tables
 abbrev pub AreCopies : profiles.Contents → profiles.Contents → List (Copied × Arc Found Global) → Type 0
 AreCopies source target copies = (k : Copied) (found : Arc Found Global) → Some found ≡ lookup (copies_eq k) copies
     → (map : seen_maps.Contents) (c : Comparison) → IsCopyOf c k → IsFound (context_of source target map) c (arc_value found)
 
+-- the tables of the source that were listed, by their names
+abbrev pub AreLists : profiles.Contents → List (Option (Vec ℕ) × Arc (Vec Sized) Global) → Type 0
+AreLists source lists = (name : Option (Vec ℕ)) (all : Arc (Vec Sized) Global) → Some all ≡ lookup (option_eq texts_eq name) lists → IsListed source (name_of name) (arc_value all).items
+
 -- what is found of the tables of these profiles is so
-abbrev pub AreCompared : profiles.Contents → profiles.Contents → Compared → Type 0
-AreCompared source target compared = AreCopies source target compared.copies.entries
+pub record AreCompared (source target : profiles.Contents) (compared : Compared) : Type 0 where
+  pub copies : AreCopies source target compared.copies.entries
+  pub lists : AreLists source compared.lists.entries
 
 -- what was kept of a comparison is what it finds
 abbrev pub IsRecalled : Compared → Comparison → Option (Arc Found Global) → Type 0

@@ -10,15 +10,20 @@ use Rattle.gw_profile.specs.Seen.{field, profile_value}
 use Rattle.gw_maplang.specs.Seen.{now}
 use Rattle.gw_resolve.specs.declared.resolved.Alternative as the_others
 use Rattle.gw_resolve.specs.declared.resolved.At as ats
+use Rattle.gw_resolve.specs.declared.resolved.Reference as references
+use Rattle.gw_resolve.specs.declared.resolved.Source as sources_of
+use Rattle.gw_resolve.specs.Intervals.{Interval}
 use Rattle.gw_resolve.specs.Places.{Known}
 use Rattle.gw_resolve.specs.Resolved.{Alternative, At}
-use Rattle.gw_resolve.specs.Seen.{interval, saturated, alternative, at_leaf}
+use Rattle.gw_resolve.specs.Seen.{interval, saturated, reference, source, alternative, at_leaf}
 use Rattle.gw_leaves.specs.declared.given.LeafSource.{LeafSource}
 use Rattle.gw_leaves.specs.declared.known.Known as the_known
 use Rattle.gw_leaves.specs.declared.sources.Sources.{Sources}
-use Rattle.gw_leaves.specs.Leaves.{Values, sub_values}
+use Rattle.gw_leaves.specs.declared.shape.Presence.{Presence}
+use Rattle.gw_leaves.specs.Leaves.{Values, Shape, sub_values, source_shape, at_presence}
+use Rattle.gw_leaves.specs.Counts as counts
 use Rattle.gw_leaves.specs.Context.{ContextValue}
-use Rattle.gw_leaves.specs.Uses.{map_tables}
+use Rattle.gw_leaves.specs.Uses.{sources_value, map_tables}
 use Rattle.gw_leaves.specs.own.Comparisons.{rowed}
 
 abbrev pub leaves_value : Sources → List ats.At → List At
@@ -26,6 +31,18 @@ leaves_value s leaves = map (at_leaf (map_tables s)) leaves
 
 abbrev pub others_value : Sources → List the_others.Alternative → List Alternative
 others_value s others = map (alternative (map_tables s)) others
+
+-- what is known of the text that a source gives
+abbrev pub shape_at : Sources → sources_of.Source → Shape
+shape_at s from = source_shape (sources_value s) (source from)
+
+-- whether a place has a text
+abbrev pub presence_at : Sources → ats.At → Presence
+presence_at s a = at_presence (sources_value s) (at_leaf (map_tables s) a)
+
+-- how often the source field of a reference comes
+abbrev pub field_count : Sources → references.Reference → Interval
+field_count s from = counts.field_count (sources_value s) (reference from)
 
 -- what is read of a subcomponent, as it is or looked up
 abbrev pub source_values : ContextValue → Option (Bor SubShape) → Values

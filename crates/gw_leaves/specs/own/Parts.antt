@@ -23,3 +23,7 @@ some_sure s part leaves = list_any (λ a. is_sure_in part a.comp a.sub (is_alway
 
 abbrev pub none_beside : Sources → Part → List At → Bool
 none_beside s part leaves = list_all (λ a. is_not_beside part a.comp a.sub (is_absent (at_presence s a))) leaves
+
+-- some place of the part always has a text, or none beside it ever has
+abbrev pub is_sure : Sources → Part → List At → Bool
+is_sure s part leaves = some_sure s part leaves || none_beside s part leaves

@@ -1,32 +1,43 @@
 -- The failures of the definitions, of parts as the program holds them.
-use Rattle.std.specs.Prelude.{Bool, ℕ, ◌||◌, List, Option, Some}
+use Rattle.std.specs.Prelude.{Bool, ℕ, ◌&&◌, ◌||◌, not, List, ◌++◌, flat_map, Option, Some}
 use denote.Ref.{Bor}
 use Rattle.gw_profile.specs.declared.shape.SubShape.{SubShape}
 use Rattle.gw_profile.specs.declared.shape.FieldShape.{FieldShape}
 use Rattle.gw_profile.specs.declared.shape.Count.TheVariants.{Octets}
+use Rattle.gw_profile.specs.declared.shape.Usage.{Usage}
 use Rattle.gw_profile.specs.Shapes.{SubValue, CompValue}
 use Rattle.gw_profile.specs.Seen as profiles
 use Rattle.gw_profile.specs.Seen.{sub as sub_value, field as field_value, profile_value}
+use Rattle.gw_validate.specs.Breaches.{is_required, is_forbidden}
 use Rattle.gw_maplang.specs.Seen.{now}
 use Rattle.gw_resolve.specs.declared.resolved.Source.{Source}
 use Rattle.gw_resolve.specs.declared.resolved.ResolvedLeaf.{ResolvedLeaf}
 use Rattle.gw_resolve.specs.declared.resolved.At.{At}
+use Rattle.gw_resolve.specs.declared.resolved.Alternative.{Alternative}
 use Rattle.gw_resolve.specs.declared.failure.FailureSite.{FailureSite}
-use Rattle.gw_resolve.specs.Failures.{Failure}
+use Rattle.gw_resolve.specs.Failures.{Failure, fails}
 use Rattle.gw_resolve.specs.Resolved as resolved
-use Rattle.gw_resolve.specs.Seen.{mark, source, leaf}
+use Rattle.gw_resolve.specs.Seen.{mark, leaf}
 use Rattle.gw_leaves.specs.declared.elements.Filling.{Filling}
 use Rattle.gw_leaves.specs.declared.elements.Filling.TheVariants.{Copied, Made}
 use Rattle.gw_leaves.specs.declared.given.LeafSource.{LeafSource}
 use Rattle.gw_leaves.specs.declared.shape.Presence.{Presence}
 use Rattle.gw_leaves.specs.declared.sources.Sources.{Sources}
 use Rattle.gw_leaves.specs.Components as spec
-use Rattle.gw_leaves.specs.Leaves.{Values, any, source_shape, may_be_unlisted, may_be_long}
+use Rattle.gw_leaves.specs.Reached as reached
+use Rattle.gw_leaves.specs.Leaves.{Values, any, is_always, is_absent, may_be_unlisted, may_be_long}
 use Rattle.gw_leaves.specs.Context.{ContextValue}
 use Rattle.gw_leaves.specs.Uses.{sources_value, target_value, map_tables}
-use Rattle.gw_leaves.specs.own.Held.{given_texts, leaves_value}
+use Rattle.gw_leaves.specs.own.Held.{given_texts, leaves_value, others_value, shape_at}
 use Rattle.gw_profile.specs.Numbered.{some_field, comp_of}
 use Rattle.gw_leaves.specs.own.Comparisons.{rowed}
+
+-- ---- usage
+
+-- something required isn't always there, or something forbidden may be
+abbrev pub usage_failures : FailureSite → Usage → Presence → List Failure
+usage_failures at usage presence =
+    fails 5 (mark at) (is_required usage && not (is_always presence)) ++ fails 11 (mark at) (is_forbidden usage && not (is_absent presence))
 
 -- ---- a subcomponent
 
@@ -55,7 +66,7 @@ comp_failures s at (Made leaves) = spec.made_comp (sources_value s) (mark at) (l
 abbrev pub source_failures : Sources → FailureSite → Option (Bor (List ℕ)) → Source → SubShape → List Failure
 source_failures s at rows from sub =
     spec.value_failures (target_value s) (mark at)
-    (record { presence = (source_shape (sources_value s) (source from)).presence; values = rowed (map_tables s) (now rows) (source_shape (sources_value s) (source from)).values })
+    (record { presence = (shape_at s from).presence; values = rowed (map_tables s) (now rows) (shape_at s from).values })
     (sub_value sub)
 
 -- of the first digits of a text
@@ -78,3 +89,23 @@ made_leaf s target = spec.made_leaf (sources_value s) (target_value s) (field_va
 -- of a target field
 abbrev pub made_field : Sources → FailureSite → List At → FieldShape → List Failure
 made_field s at leaves target = spec.made_field (sources_value s) (target_value s) (mark at) (leaves_value s leaves) (field_value target)
+
+-- ---- lookups
+
+-- of a leaf that has to have a row for each text
+abbrev pub leaf_lookups : Sources → FailureSite → ResolvedLeaf → List Failure
+leaf_lookups s at l = spec.leaf_lookups (sources_value s) (mark at) (leaf (map_tables s) l)
+
+-- of these leaves of a place
+abbrev pub other_lookups : Sources → FailureSite → List Alternative → List Failure
+other_lookups s at others = flat_map (spec.other_lookups (sources_value s) (mark at)) (others_value s others)
+
+-- of the leaves of this target field
+abbrev pub lookups : Sources → ℕ → List At → List Failure
+lookups s field leaves = flat_map (spec.lookup_failures (sources_value s) field) (leaves_value s leaves)
+
+-- ---- alternatives
+
+-- of the alternatives in this target field that can't be reached
+abbrev pub unreached_failures : Sources → ℕ → List At → List Failure
+unreached_failures s field leaves = flat_map (reached.place_failures (sources_value s) field) (leaves_value s leaves)

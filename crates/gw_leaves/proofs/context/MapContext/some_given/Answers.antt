@@ -2,11 +2,7 @@ use Rattle.std.proofs.Common.{ap, subst, ◌∙◌}
 use Rattle.std.specs.Arc.{arc_value}
 use Rattle.gw_leaves.specs.declared.comparison.Found.{Found}
 use Rattle.gw_leaves.specs.own.Comparisons.{IsFound, some_length}
-use Rattle.gw_leaves.proofs.Comparing.{no_lists}
 use Rattle.gw_leaves.proofs.context.MapContext.some_given.Goals as goal
-
-pub find-requires : goal.find-requires
-find-requires c = no_lists c.args.self.now _ c.new.ensures.empty
 
 pub returns-in-Some : goal.returns-in-Some
 returns-in-Some c =
