@@ -14,12 +14,15 @@ use Rattle.gw_mllp.specs.Stream.{Has, Held, Tail, block}
 use Rattle.gw_stream.specs.declared.counts.Counts.{Counts}
 use Rattle.gw_stream.specs.declared.fault.RunFault.{RunFault}
 use Rattle.gw_stream.specs.declared.fault.RunFault.TheVariants.{Memory, Line, Turns}
+use Rattle.gw_stream.specs.declared.sink.Sink as sink
+use Rattle.gw_stream.specs.declared.source.Source as source
 use Rattle.gw_stream.specs.Counted.{nothing}
 use Rattle.gw_stream.specs.Reading.{ReadTimes}
 use Rattle.gw_stream.specs.Sent.{BeginsWith}
 use Rattle.gw_stream.specs.Streams.{HasFirst}
+use Rattle.gw_crew.specs.declared.door.Door as door
 use Rattle.gw_crew.specs.Notes.{NoteSeen, WasFull, WasNothing, Added}
-use Rattle.gw_crew.specs.Streams.{Reading, Spot}
+use Rattle.gw_crew.specs.Streams.{Reading, Spot, spot}
 
 -- one block more was sent, and acknowledged with this code
 abbrev pub with_sent : Ack → Counts → Counts
@@ -146,6 +149,27 @@ pub record Unsent (n : ℕ) (writer reader : Bool) (reads : ℕ) (bytes control 
   pub begins : BeginsWith bytes part
   pub wrote : Appends before after part
   pub fails : GivesNone n writer reader reads unread old control fault
+
+-- ---- the same of a door, a source and a sink, by what they say of themselves
+
+abbrev pub SentBy : {R W : Type 0} → source.Ghosts R → sink.Ghosts W → List ℕ → List ℕ → R → R → W → W → Held → Held → Ack → Type 0
+SentBy by to bytes control reader reader' writer writer' old new =
+    Sent bytes control (to.contents writer) (to.contents writer') (spot by reader) (spot by reader') old new
+
+abbrev pub UnsentBy : {R W : Type 0} → source.Ghosts R → sink.Ghosts W → ℕ → List ℕ → List ℕ → R → R → W → W → Held → RunFault → Type 0
+UnsentBy by to n bytes control reader reader' writer writer' old =
+    Unsent n (to.has_failed writer') (by.has_failed reader') (by.reads reader') bytes control (to.contents writer) (to.contents writer') (spot by reader) old
+
+abbrev pub CarriesBy : {D R W : Type 0} → door.Ghosts D → source.Ghosts R → sink.Ghosts W → ℕ → D → D → R → W → W → Counts → Type 0
+CarriesBy at by to r door door' reader writer writer' =
+    Carries r (by.remaining reader) (to.contents writer) (to.contents writer') (at.noted door) (at.noted door')
+
+abbrev pub BreaksBy : {D R W : Type 0} → door.Ghosts D → source.Ghosts R → sink.Ghosts W → ℕ → D → D → R → R → W → W → RunFault → Type 0
+BreaksBy at by to r door door' reader reader' writer writer' =
+    Breaks r (to.has_failed writer') (by.has_failed reader') (by.reads reader) (by.reads reader') (by.remaining reader)
+    (to.contents writer) (to.contents writer') (at.noted door) (at.noted door')
+
+-- ---- how it goes on
 
 -- so far only rounds were noted, and the decoder has given the blocks that acknowledge them
 pub record Progress (r : ℕ) (from left : Spot) (before after : Option (List ℕ)) (held : Held) (old new : List NoteSeen) (counts : Counts) : Type 0 where

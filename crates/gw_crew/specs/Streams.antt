@@ -2,6 +2,7 @@
 use Rattle.std.specs.Prelude.{ℕ, ◌+◌, ◌*◌, ◌≤◌, List, length, Option}
 use Rattle.std.specs.Io.KnownBytes.{Consumes}
 use Rattle.gw_mllp.specs.Stream.{Held, Stands}
+use Rattle.gw_stream.specs.declared.source.Source as source
 use Rattle.gw_stream.specs.Reading.{ReadTimes}
 
 -- what a source has left, where that is known, and how often it was read
@@ -10,8 +11,8 @@ pub record Spot : Type 0 where
   pub reads : ℕ
 
 -- a source, by what it says of itself
-abbrev pub spot : {S : Type 0} → (S → Option (List ℕ)) → (S → ℕ) → S → Spot
-spot remaining reads source = record { left = remaining source; reads = reads source }
+abbrev pub spot : {S : Type 0} → source.Ghosts S → S → Spot
+spot by reader = record { left = by.remaining reader; reads = by.reads reader }
 
 -- Between two spots a decoder was fed what a source gave, and has given these blocks; `more` further reads were made for the next one.
 -- Each read gave a byte, and 4,096 bytes at most.

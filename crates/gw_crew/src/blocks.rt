@@ -34,9 +34,9 @@ fn take_piece(decoder: &mut Decoder, piece: &[u8]) -> Result<bool, AllocError>
 #[tactic(auto, using(crate::proofs::Carrying::first_so))]
 fn next_block<R: Source>(decoder: &mut Decoder, reader: &mut R, n: u64) -> Result<Vec<u8>, RunFault>
     requires { R.has_failed reader.old ≡ false }
-    ensures next { IfOk result (λ content. GivesNext (spot R.remaining R.reads reader.old) (spot R.remaining R.reads reader.new)
+    ensures next { IfOk result (λ content. GivesNext (spot R.Source reader.old) (spot R.Source reader.new)
         decoder.old decoder.new content.items) }
-    ensures none { IfErr result (GivesNoBlock n (R.has_failed reader.new) (R.reads reader.new) (spot R.remaining R.reads reader.old) decoder.old) }
+    ensures none { IfErr result (GivesNoBlock n (R.has_failed reader.new) (R.reads reader.new) (spot R.Source reader.old) decoder.old) }
     ensures works { OnOk result (R.has_failed reader.new ≡ false) }
 {
     if let Some(content) = decoder.next_block() {
@@ -87,9 +87,9 @@ pub(crate) fn answered<R: Source>(
     n: u64,
 ) -> Result<Ack, RunFault>
     requires { R.has_failed reader.old ≡ false }
-    ensures acked { IfOk result (Acked (spot R.remaining R.reads reader.old) (spot R.remaining R.reads reader.new)
+    ensures acked { IfOk result (Acked (spot R.Source reader.old) (spot R.Source reader.new)
         decoder.old decoder.new control.now) }
-    ensures none { IfErr result (GivesNone n false (R.has_failed reader.new) (R.reads reader.new) (spot R.remaining R.reads reader.old)
+    ensures none { IfErr result (GivesNone n false (R.has_failed reader.new) (R.reads reader.new) (spot R.Source reader.old)
         decoder.old control.now) }
     ensures works { OnOk result (R.has_failed reader.new ≡ false) }
 {

@@ -1,13 +1,9 @@
 //! Couriers.
 ghost use Rattle.std.specs.Prelude.{◌≡◌, ◌+◌, ◌<◌, ◌^◌, IfOk, IfErr, OnErr, OnOk, false};
-ghost use Rattle.gw_er7.specs.Written.{written};
 ghost use Rattle.gw_gate.specs.Values.{reply_seen};
-ghost use Rattle.gw_mllp.specs.Stream.{block};
 ghost use Rattle.gw_stream.specs.declared.fault.RunFault.TheVariants.{Memory};
-ghost use Rattle.gw_ack.specs.Headers.{control_of};
-ghost use Rattle.gw_crew.specs.Carries.{Breaks, Carries, Sent, Unsent, with_sent};
-ghost use Rattle.gw_crew.specs.Streams.{spot};
-ghost use Rattle.gw_crew.specs.own.Turns.{Adds, Comes, Waits, out_seen};
+ghost use Rattle.gw_crew.specs.Carries.{BreaksBy, CarriesBy, SentBy, UnsentBy, with_sent};
+ghost use Rattle.gw_crew.specs.own.Turns.{Adds, BreaksMessage, Comes, SendsMessage, Waits, out_seen};
 ghost use Rattle.gw_crew.specs.Releases.{GaveOut, release_reply, release_reply_seen};
 ghost use Rattle.std.specs.Option.{option_map};
 
@@ -68,10 +64,10 @@ pub fn carry<R: Source, W: Sink>(
 ) -> Result<Ack, RunFault>
     requires reads { R.has_failed reader.old ≡ false }
     requires writes { W.has_failed writer.old ≡ false }
-    ensures sent { IfOk result (Sent bytes.now control.now (W.contents writer.old) (W.contents writer.new)
-        (spot R.remaining R.reads reader.old) (spot R.remaining R.reads reader.new) decoder.old decoder.new) }
-    ensures unsent { IfErr result (Unsent n (W.has_failed writer.new) (R.has_failed reader.new) (R.reads reader.new)
-        bytes.now control.now (W.contents writer.old) (W.contents writer.new) (spot R.remaining R.reads reader.old) decoder.old) }
+    ensures sent { IfOk result (SentBy R.Source W.Sink bytes.now control.now
+        reader.old reader.new writer.old writer.new decoder.old decoder.new) }
+    ensures unsent { IfErr result (UnsentBy R.Source W.Sink n bytes.now control.now
+        reader.old reader.new writer.old writer.new decoder.old) }
     ensures reader { OnOk result (R.has_failed reader.new ≡ false) }
     ensures writer { OnOk result (W.has_failed writer.new ≡ false) }
 {
@@ -93,11 +89,10 @@ fn carry_message<R: Source, W: Sink>(
 ) -> Result<Ack, RunFault>
     requires reads { R.has_failed reader.old ≡ false }
     requires writes { W.has_failed writer.old ≡ false }
-    ensures sent { IfOk result (Sent (block (written message.now)) (control_of message.now) (W.contents writer.old) (W.contents writer.new)
-        (spot R.remaining R.reads reader.old) (spot R.remaining R.reads reader.new) decoder.old decoder.new) }
-    ensures unsent { IfErr result (Unsent n (W.has_failed writer.new) (R.has_failed reader.new) (R.reads reader.new)
-        (block (written message.now)) (control_of message.now) (W.contents writer.old) (W.contents writer.new)
-        (spot R.remaining R.reads reader.old) decoder.old) }
+    ensures sent { IfOk result (SendsMessage R.Source W.Sink message.now
+        reader.old reader.new writer.old writer.new decoder.old decoder.new) }
+    ensures unsent { IfErr result (BreaksMessage R.Source W.Sink n message.now
+        reader.old reader.new writer.old writer.new decoder.old) }
     ensures reader { OnOk result (R.has_failed reader.new ≡ false) }
     ensures writer { OnOk result (W.has_failed writer.new ≡ false) }
 {
@@ -164,10 +159,10 @@ pub fn courier<D: Door, R: Source, W: Sink>(
 ) -> Result<Counts, RunFault>
     requires reads { R.has_failed reader.old ≡ false }
     requires writes { W.has_failed writer.old ≡ false }
-    ensures carries { IfOk result (Carries receiver (R.remaining reader.old) (W.contents writer.old) (W.contents writer.new)
-        (D.noted door.old) (D.noted door.new)) }
-    ensures breaks { IfErr result (Breaks receiver (W.has_failed writer.new) (R.has_failed reader.new) (R.reads reader.old) (R.reads reader.new)
-        (R.remaining reader.old) (W.contents writer.old) (W.contents writer.new) (D.noted door.old) (D.noted door.new)) }
+    ensures carries { IfOk result (CarriesBy D.Door R.Source W.Sink receiver
+        door.old door.new reader.old writer.old writer.new) }
+    ensures breaks { IfErr result (BreaksBy D.Door R.Source W.Sink receiver
+        door.old door.new reader.old reader.new writer.old writer.new) }
     ensures reader { OnOk result (R.has_failed reader.new ≡ false) }
     ensures writer { OnOk result (W.has_failed writer.new ≡ false) }
 {

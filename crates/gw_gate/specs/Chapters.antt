@@ -1,6 +1,6 @@
 -- Journals that follow one another.
 use Rattle.std.specs.Prelude.{◌≡◌, ◌≤◌, ℕ, nat_lt, Bool, false, ◌||◌, List, [], ◌∷◌, ◌++◌, length, flat_map, ⊤}
-use Rattle.std.specs.List.{list_any}
+use Rattle.std.specs.List.{AllByRecursion, list_any}
 use Rattle.gw_gate.specs.Journal.{EntrySeen, Start, Journal, accepted, due, issued, jobs, released, end, start_after}
 
 -- ---- where a journal can start
@@ -44,3 +44,7 @@ all_entries journals = flat_map (λ j. j.entries) journals
 -- Journals that follow one another, read as one. What was due, what was released and under which versions is stated of this one.
 abbrev pub joined : Journal → List Journal → Journal
 joined first more = record { start = first.start; entries = first.entries ++ all_entries more }
+
+-- this holds of journals that follow one another, read as one, where each of them is so
+abbrev pub OverChapters : (Journal → Type 0) → (Journal → Type 0) → Type 0
+OverChapters IsSo Holds = (first : Journal) (more : List Journal) → AllByRecursion IsSo (first ∷ more) → Follow first more → Holds (joined first more)

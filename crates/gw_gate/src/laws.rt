@@ -1,6 +1,5 @@
 //! Laws on every lawful journal, and worked rows of the definitions.
-ghost use Rattle.std.specs.Prelude.{◌≡◌, ℕ, List, ◌∷◌, ◌++◌, length, Some};
-ghost use Rattle.std.specs.List.{AllByRecursion};
+ghost use Rattle.std.specs.Prelude.{◌≡◌, ℕ, List, ◌++◌, length, Some};
 ghost use Rattle.gw_gate.specs.Replies.{Puts, Swaps, IsStranger, IsUnlike, reply, replies, most};
 ghost use Rattle.gw_gate.specs.Journal.{Journal};
 ghost use Rattle.gw_gate.specs.Parts.{MessageSeen};
@@ -10,7 +9,7 @@ ghost use Rattle.gw_gate.specs.Meaning.{Makes};
 ghost use Rattle.gw_gate.specs.Toy.{other_plan, made, made_later, opened, worked, taken};
 ghost use Rattle.gw_gate.specs.Rows.{out_of_order, in_order, swapping, swapped_over, issuing_again, issued_again, filling, filled};
 ghost use Rattle.gw_gate.specs.Rows.{cutting, cut, closed, filling_on, filled_on, cutting_swapped, cut_swapped};
-ghost use Rattle.gw_gate.specs.Chapters.{Follow, joined};
+ghost use Rattle.gw_gate.specs.Chapters.{OverChapters};
 
 /// Results in any order are released in the order of acceptance, each once.
 pub fn released_in_order()
@@ -43,8 +42,8 @@ pub fn sent_in_order()
 
 /// Two translations of one plan text, message and receiver are one message.
 pub fn one_translation()
-    ensures { (text : List ℕ) (message : MessageSeen) (r : ℕ) (made other : MessageSeen)
-        → Makes text message r made → Makes text message r other → made ≡ other }
+    ensures { (text : List ℕ) (m : MessageSeen) (r : ℕ) (made other : MessageSeen)
+        → Makes text m r made → Makes text m r other → made ≡ other }
 {}
 
 /// In a lawful journal the versions under which messages were accepted never fall.
@@ -73,10 +72,7 @@ pub fn chapters()
 
 /// The same over chapters that follow one another, read as one journal.
 pub fn sent_over_chapters()
-    ensures order { (first : Journal) (more : List Journal) (r : ℕ)
-        → AllByRecursion (IsLawful (IsTranslated Makes)) (first ∷ more) → Follow first more → InOrder Makes (joined first more) r }
-    ensures versions { (first : Journal) (more : List Journal)
-        → AllByRecursion (IsLawful (IsTranslated Makes)) (first ∷ more) → Follow first more → VersionsRise (joined first more) }
-    ensures numbers { (first : Journal) (more : List Journal)
-        → AllByRecursion (IsLawful (IsTranslated Makes)) (first ∷ more) → Follow first more → Numbered (joined first more) }
+    ensures order { OverChapters (IsLawful (IsTranslated Makes)) (λ j. (r : ℕ) → InOrder Makes j r) }
+    ensures versions { OverChapters (IsLawful (IsTranslated Makes)) VersionsRise }
+    ensures numbers { OverChapters (IsLawful (IsTranslated Makes)) Numbered }
 {}

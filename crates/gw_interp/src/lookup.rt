@@ -12,7 +12,7 @@ ghost use Rattle.gw_resolve.specs.Seen.{leaf as seen_leaf, alternative, at_leaf}
 ghost use Rattle.gw_validate.specs.Breaches.{is_null};
 ghost use Rattle.gw_interp.specs.own.Borrowed.{AreOf};
 ghost use Rattle.gw_interp.specs.Meaning.{look_up, is_asked, starts_with, longest, first_digits};
-ghost use Rattle.gw_interp.specs.own.Sourced.{walks, LeafGives, settles, FirstGives};
+ghost use Rattle.gw_interp.specs.own.Sourced.{walks, LeafGives, settles, ReadingGives};
 
 use crate::reading::{Reading, source_text};
 use gw_maplang::{DateDigits, Map, Table};
@@ -118,7 +118,7 @@ fn first_text<'a>(
     reading: &Reading<'_, 'a>,
     others: &'a [Alternative],
 ) -> Option<&'a [u8]>
-    ensures { (m : List SegmentValue) → AreOf m reading.now.scope.now → FirstGives (walks m reading.now) (map (alternative rows.now.tables) others.now) (now result) }
+    ensures { ReadingGives reading.now (map (alternative rows.now.tables) others.now) (now result) }
 {
     for other in others {
         let given = leaf_text(rows, reading, &other.leaf);
@@ -135,7 +135,7 @@ pub(crate) fn place_text<'a>(
     reading: &Reading<'_, 'a>,
     at: &'a At,
 ) -> Option<&'a [u8]>
-    ensures { (m : List SegmentValue) → AreOf m reading.now.scope.now → FirstGives (walks m reading.now) (alternatives (at_leaf rows.now.tables at.now)) (now result) }
+    ensures { ReadingGives reading.now (alternatives (at_leaf rows.now.tables at.now)) (now result) }
 {
     let own = leaf_text(rows, reading, &at.leaf);
     if settles(own) {

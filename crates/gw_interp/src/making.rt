@@ -1,11 +1,12 @@
 //! Makes the fields of the last segment by their rules.
-ghost use Rattle.std.specs.Prelude.{OnOk, None, Some};
-ghost use Rattle.gw_maplang.specs.Seen.{condition as seen_condition, condition_some};
-ghost use Rattle.gw_resolve.specs.Resolved.{copy, first, repeat, build};
+ghost use Rattle.std.specs.Prelude.{OnOk, None};
+ghost use Rattle.gw_maplang.specs.Seen.{condition_some};
+ghost use Rattle.gw_resolve.specs.Resolved.{copy, first, build};
 ghost use Rattle.gw_resolve.specs.Seen.{reference, rule as seen_rule};
 ghost use Rattle.gw_interp.specs.own.Borrowed.{AreOf};
 ghost use Rattle.gw_interp.specs.own.Filling.{message_of};
-ghost use Rattle.gw_interp.specs.own.Making.{seen_from, in_repetition, at_leaves, MayFillRep, IsRepFilled, MayMakeBy, IsMadeBy, MayMakeRule, IsRuleMade};
+ghost use Rattle.gw_interp.specs.own.Making.{seen_from, in_repetition, at_leaves, repeated, repeated_by, MayFillRep, IsRepFilled, MayMakeBy, IsMadeBy};
+ghost use Rattle.gw_interp.specs.own.Making.{MayMakeRule, IsRuleMade};
 
 use crate::copying::{ValuePath, copy_rep, copy_reps};
 use crate::filling::fill_rep;
@@ -105,8 +106,8 @@ fn make_repeat<'a>(
     field: usize,
 ) -> Result<(), AllocError>
     requires of { AreOf (message_of scope.now) scope.now }
-    requires may { MayMakeBy (seen_from scope.now) (repeat (reference from.now) None (at_leaves rows.now.tables leaves.now)) field builder.old }
-    ensures { OnOk result (IsMadeBy (seen_from scope.now) (repeat (reference from.now) None (at_leaves rows.now.tables leaves.now)) field builder.old builder.new) }
+    requires may { MayMakeBy (seen_from scope.now) (repeated rows.now.tables from.now None leaves.now) field builder.old }
+    ensures { OnOk result (IsMadeBy (seen_from scope.now) (repeated rows.now.tables from.now None leaves.now) field builder.old builder.new) }
 {
     let Some(segment) = segment_at(scope, &from.place) else {
         return Ok(());
@@ -150,10 +151,8 @@ fn make_chosen<'a>(
     field: usize,
 ) -> Result<(), AllocError>
     requires of { AreOf (message_of scope.now) scope.now }
-    requires may { MayMakeBy (seen_from scope.now)
-        (repeat (reference chosen.from.now) (Some (seen_condition chosen.condition.now)) (at_leaves rows.now.tables leaves.now)) field builder.old }
-    ensures { OnOk result (IsMadeBy (seen_from scope.now)
-        (repeat (reference chosen.entry.from.now) (Some (seen_condition chosen.entry.condition.now)) (at_leaves rows.now.tables leaves.now)) field builder.old builder.new) }
+    requires may { MayMakeBy (seen_from scope.now) (repeated_by rows.now.tables chosen leaves.now) field builder.old }
+    ensures { OnOk result (IsMadeBy (seen_from scope.now) (repeated_by rows.now.tables chosen.entry leaves.now) field builder.old builder.new) }
 {
     let Some(segment) = segment_at(scope, &chosen.from.place) else {
         return Ok(());

@@ -29,6 +29,10 @@ pub record MakesFor (plan : PlanValue) (m : List SegmentValue) (receiver : ℕ) 
   pub means : Means by.target (resolved by.source by.target by.map) m tree made
   pub conforms : Conforms by.target made
 
+-- there is at most one such
+abbrev pub AtMostOne : {A : Type 0} → (A → Type 0) → Type 0
+AtMostOne {A} P = (made other : A) → P made → P other → made ≡ other
+
 -- it is what the plan of an admitted message makes of it for this receiver
 abbrev pub Translates : ConformingHeld → ℕ → List SegmentValue → Type 0
 Translates c receiver made = MakesFor (plan_value c.plan) c.tree.message receiver made

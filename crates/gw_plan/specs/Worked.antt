@@ -1,11 +1,12 @@
 -- A worked plan, and texts with one fault each.
-use Rattle.std.specs.Prelude.{ℕ, Option, Some, None, List, [], ◌∷◌, codes}
+use Rattle.std.specs.Prelude.{ℕ, Option, Some, None, List, [], ◌∷◌, codes, Result}
 use Rattle.gw_profile.specs.declared.shape.Count.TheVariants.{Octets}
 use Rattle.gw_profile.specs.Shapes.{nothing, ProfileValue}
 use Rattle.gw_plan.specs.declared.senders.HeaderField.TheVariants.{SendingApplication, SendingFacility}
 use Rattle.gw_plan.specs.Senders.{Senders, Header}
 use Rattle.gw_plan.specs.Shapes.{RouteValue, PlanValue}
 use Rattle.gw_plan.specs.Joined.{joined}
+use Rattle.gw_plan.specs.Routing.{routed_by}
 
 -- ---- routes
 
@@ -53,6 +54,10 @@ with_others = record told_apart { routes = of_applications ∷ of_facility ∷ o
 -- the same without `accept` lines
 abbrev pub open_worked : PlanValue
 open_worked = record worked { versions = []; processing = [] }
+
+-- the route of a report from this application and facility
+abbrev pub report_from : PlanValue → List ℕ → List ℕ → Result RouteValue ℕ
+report_from plan application facility = routed_by plan (codes "ORU") (codes "R01") (from_there application facility) [] []
 
 -- ---- texts, by their lines behind the first
 

@@ -5,7 +5,7 @@ ghost use Rattle.gw_plan.specs.declared.fault.PlanFault.TheVariants as fault;
 ghost use Rattle.gw_plan.specs.Held.{plan_value};
 ghost use Rattle.gw_plan.specs.Routing.{routed_by};
 ghost use Rattle.gw_plan.specs.Shapes.{PlanValue};
-ghost use Rattle.gw_plan.specs.Translating.{MakesFor};
+ghost use Rattle.gw_plan.specs.Translating.{AtMostOne, MakesFor};
 ghost use Rattle.gw_plan.specs.Whole.{spelled};
 ghost use Rattle.gw_plan.specs.Worked as worked;
 
@@ -22,8 +22,7 @@ pub fn one_text_is_one_plan(one: &Plan, other: &Plan)
 
 /// One plan makes at most one message of a message for a receiver.
 pub fn one_translation()
-    ensures { (plan : PlanValue) (m : List SegmentValue) (receiver : ℕ) (made other : List SegmentValue)
-        → MakesFor plan m receiver made → MakesFor plan m receiver other → made ≡ other }
+    ensures { (plan : PlanValue) (m : List SegmentValue) (receiver : ℕ) → AtMostOne (MakesFor plan m receiver) }
 {}
 
 /// The route of a message, or the code of the first test that fails: type, event and senders, version, processing id.
@@ -34,12 +33,10 @@ pub fn rows_of_routes()
     ensures event { routed_by worked.worked (codes "ADT") (codes "A99") worked.no_header (codes "2.3") (codes "D") ≡ Err 201 }
     ensures version { routed_by worked.worked (codes "ADT") (codes "A01") worked.no_header (codes "2.3") (codes "D") ≡ Err 203 }
     ensures processing { routed_by worked.worked (codes "ADT") (codes "A01") worked.no_header (codes "2.5.1") (codes "D") ≡ Err 202 }
-    ensures applications { routed_by worked.told_apart (codes "ORU") (codes "R01") (worked.from_there (codes "LAB2") (codes "NORTH")) [] []
-        ≡ Ok worked.of_applications }
-    ensures facility { routed_by worked.told_apart (codes "ORU") (codes "R01") (worked.from_there (codes "LAB9") (codes "NORTH")) [] []
-        ≡ Ok worked.of_facility }
-    ensures no_sender { routed_by worked.told_apart (codes "ORU") (codes "R01") (worked.from_there (codes "LAB9") (codes "SOUTH")) [] [] ≡ Err 201 }
-    ensures others { routed_by worked.with_others (codes "ORU") (codes "R01") (worked.from_there (codes "LAB9") (codes "SOUTH")) [] [] ≡ Ok worked.of_others }
+    ensures applications { worked.report_from worked.told_apart (codes "LAB2") (codes "NORTH") ≡ Ok worked.of_applications }
+    ensures facility { worked.report_from worked.told_apart (codes "LAB9") (codes "NORTH") ≡ Ok worked.of_facility }
+    ensures no_sender { worked.report_from worked.told_apart (codes "LAB9") (codes "SOUTH") ≡ Err 201 }
+    ensures others { worked.report_from worked.with_others (codes "LAB9") (codes "SOUTH") ≡ Ok worked.of_others }
     ensures any { routed_by worked.open_worked (codes "ADT") (codes "A01") worked.no_header (codes "2.3") (codes "D") ≡ Ok worked.admission }
 {}
 

@@ -1,11 +1,9 @@
 //! The routes of a plan as it is built.
-ghost use Rattle.std.specs.Prelude.{◌≡◌, [], map, IfOk, OnOk, IfSome, None, Some, false};
+ghost use Rattle.std.specs.Prelude.{◌≡◌, [], IfOk, OnOk, IfSome, None, Some, false};
 ghost use Rattle.std.specs.Option.{option_map};
 ghost use Rattle.std.specs.Arc.{arc_value};
-ghost use Rattle.gw_plan.specs.Draft.{is_taken};
-ghost use Rattle.gw_plan.specs.Index.{said};
-ghost use Rattle.gw_plan.specs.Held.{route_value, longer, IsNewLeg};
-ghost use Rattle.gw_plan.specs.own.SoFar.{all_routes, opened, IsListed, IsClaimed};
+ghost use Rattle.gw_plan.specs.Held.{longer, IsNewLeg};
+ghost use Rattle.gw_plan.specs.own.SoFar.{all_routes, is_line_taken, opened, IsListed, IsClaimed};
 
 use crate::form::RouteLine;
 use crate::index::Index;
@@ -56,7 +54,7 @@ impl RouteList {
         requires listed { IsListed self.old }
         ensures closed { self.new.closed.items ≡ self.old.closed.items }
         ensures current { self.new.current ≡ None }
-        ensures taken { IfOk result (λ b. b ≡ is_taken route.now.code.now route.now.event.now (option_map said route.now.senders) (map route_value self.old.closed.items)) }
+        ensures taken { IfOk result (λ b. b ≡ is_line_taken route.now self.old.closed.items) }
         ensures claimed { IfOk result (λ b. b ≡ false → IsClaimed route.now self.new) }
     {
         let number = self.closed.as_slice().len();

@@ -1,5 +1,5 @@
 -- What a session notes and writes, block by block (HL7 v2.5.1 chapter 2, 2.9.2: original acknowledgment mode).
-use Rattle.std.specs.Prelude.{◌≡◌, ℕ, ◌+◌, ◌≤◌, IsTrue, List, [], ◌∷◌, ◌++◌, Option, None, Some, Ok}
+use Rattle.std.specs.Prelude.{◌≡◌, ℕ, ◌+◌, ◌≤◌, IsTrue, List, [], ◌∷◌, ◌++◌, Option, None, Some, Result, Ok}
 use Rattle.gw_ack.specs.declared.reply.Reply.{Reply}
 use Rattle.gw_ack.specs.declared.reply.Reply.TheVariants.{Accept, Refuse, Reject}
 use Rattle.gw_er7.specs.Message.{SegmentValue}
@@ -11,9 +11,15 @@ use Rattle.gw_gate.specs.Journal.{WasAccepted, WasRefused}
 use Rattle.gw_gate.specs.Seen.{message_seen}
 use Rattle.gw_mllp.specs.Stream.{Tail}
 use Rattle.gw_stream.specs.declared.counts.Counts.{Counts}
+use Rattle.gw_stream.specs.declared.fault.RunFault.{RunFault}
 use Rattle.gw_stream.specs.declared.judge.Outcome.{Outcome}
+use Rattle.gw_stream.specs.declared.sink.Sink as sink
+use Rattle.gw_stream.specs.declared.source.Source as source
 use Rattle.gw_stream.specs.Exchanges.{AllExchanged, SomeExchanged}
 use Rattle.gw_stream.specs.Served.{Routed}
+use Rattle.gw_stream.specs.Streams.{Ends}
+use Rattle.gw_crew.specs.declared.clock.Clock as clock
+use Rattle.gw_crew.specs.declared.door.Door as door
 use Rattle.gw_crew.specs.Notes.{NoteSeen, Looked, WasStale, WasFull, Added}
 
 -- ---- what is said
@@ -91,3 +97,10 @@ SessionAll Gives = AllExchanged (Settles Gives)
 -- the first blocks of the stream were settled in turn, and the next one perhaps begun: known bytes grew by a beginning of their answers
 abbrev pub SessionPart : (List ℕ → Type 0) → Option (List ℕ) → List NoteSeen → List NoteSeen → Option (List ℕ) → Option (List ℕ) → Type 0
 SessionPart Gives = SomeExchanged (Settles Gives) Breaks
+
+-- what a session did, by its result: all blocks were settled, or the first ones
+abbrev pub IsSession : {D C R W : Type 0} → door.Ghosts D → clock.Ghosts C → source.Ghosts R → sink.Ghosts W → D → D → C → R → W → W
+    → Result Counts RunFault → Type 0
+IsSession at time by to door door' clock reader writer writer' result =
+    Ends (SessionAll (time.gives clock) (by.remaining reader) (at.noted door) (at.noted door') (to.contents writer) (to.contents writer'))
+    (λ fault. SessionPart (time.gives clock) (by.remaining reader) (at.noted door) (at.noted door') (to.contents writer) (to.contents writer')) result

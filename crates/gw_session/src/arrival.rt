@@ -3,8 +3,8 @@ ghost use Rattle.std.specs.Prelude.{IfOk, OnErr, Some};
 ghost use Rattle.std.specs.Arc.{arc_value};
 ghost use Rattle.gw_crew.specs.own.Turns.{Adds};
 ghost use Rattle.gw_gate.specs.Seen.{plan_seen};
-ghost use Rattle.gw_session.specs.Sessions.{IsCutShort, IsOutcome};
-ghost use Rattle.gw_session.specs.own.Steps.{Asks, Attempts, CutsShort, Judges, judgement_seen};
+ghost use Rattle.gw_session.specs.Sessions.{IsCutShort};
+ghost use Rattle.gw_session.specs.own.Steps.{Asks, Attempts, CutsShort, IsSettled, Judges, judgement_seen};
 
 use crate::doors::{ArriveReply, CurrentPlan, NumberedReply, arrive, look, refuse};
 use gw_ack::{INTERNAL, Reply};
@@ -86,7 +86,7 @@ fn arrive_in_time<D: Door>(
     message: Message,
 ) -> Result<NumberedReply, AllocError>
     ensures settled { IfOk result (λ settled.
-        Adds (λ notes. IsOutcome (Some message) notes settled.number settled.reply) (D.noted door.old) (D.noted door.new)) }
+        Adds (IsSettled (Some message) settled) (D.noted door.old) (D.noted door.new)) }
     ensures err { OnErr result (Adds (IsCutShort (Some message)) (D.noted door.old) (D.noted door.new)) }
 {
     let mut message = message;
@@ -106,7 +106,7 @@ pub(crate) fn settle<D: Door>(
     door: &mut D,
     what: Option<Message>,
 ) -> Result<NumberedReply, AllocError>
-    ensures settled { IfOk result (λ settled. Adds (λ notes. IsOutcome what notes settled.number settled.reply) (D.noted door.old) (D.noted door.new)) }
+    ensures settled { IfOk result (λ settled. Adds (IsSettled what settled) (D.noted door.old) (D.noted door.new)) }
     ensures err { OnErr result (Adds (IsCutShort what) (D.noted door.old) (D.noted door.new)) }
 {
     match what {

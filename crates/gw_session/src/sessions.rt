@@ -1,8 +1,7 @@
 //! A session: the blocks of a stream, one by one.
 ghost use Rattle.std.specs.Prelude.{◌≡◌, ◌↔◌, IsTrue, IsErrOf, false};
 ghost use Rattle.gw_stream.specs.Reading.{ReadUpTo, ReadsTooOften};
-ghost use Rattle.gw_stream.specs.Streams.{Ends};
-ghost use Rattle.gw_session.specs.Sessions.{SessionAll, SessionPart};
+ghost use Rattle.gw_session.specs.Sessions.{IsSession};
 
 use crate::at_door::AtDoor;
 use gw_crew::{Clock, Door};
@@ -19,12 +18,8 @@ fn answer_all<D: Door, C: Clock, R: Source, W: Sink>(
     requires reads { R.has_failed reader.old ≡ false }
     requires writes { W.has_failed writer.old ≡ false }
     ensures door { judge.new.door.ghost_name ≡ judge.old.door.ghost_name }
-    ensures ends { Ends
-        (SessionAll (C.gives judge.old.clock.now) (R.remaining reader.old) (D.noted judge.old.door.now) (D.noted judge.new.door.now)
-        (W.contents writer.old) (W.contents writer.new))
-        (λ fault. SessionPart (C.gives judge.old.clock.now) (R.remaining reader.old) (D.noted judge.old.door.now) (D.noted judge.new.door.now)
-        (W.contents writer.old) (W.contents writer.new))
-        result }
+    ensures ends { IsSession D.Door C.Clock R.Source W.Sink judge.old.door.now judge.new.door.now judge.old.clock.now
+        reader.old writer.old writer.new result }
     ensures read { IsErrOf result RunFault.Read ↔ IsTrue (R.has_failed reader.new) }
     ensures write { IsErrOf result RunFault.Write ↔ IsTrue (W.has_failed writer.new) }
     ensures turns { IsErrOf result RunFault.Turns → ReadsTooOften (R.remaining reader.old) (R.reads reader.old) (R.reads reader.new) }
@@ -52,11 +47,8 @@ pub fn session<D: Door, C: Clock, R: Source, W: Sink>(
 ) -> Result<Counts, RunFault>
     requires reads { R.has_failed reader.old ≡ false }
     requires writes { W.has_failed writer.old ≡ false }
-    ensures ends { Ends
-        (SessionAll (C.gives clock.old) (R.remaining reader.old) (D.noted door.old) (D.noted door.new) (W.contents writer.old) (W.contents writer.new))
-        (λ fault. SessionPart (C.gives clock.old) (R.remaining reader.old) (D.noted door.old) (D.noted door.new)
-        (W.contents writer.old) (W.contents writer.new))
-        result }
+    ensures ends { IsSession D.Door C.Clock R.Source W.Sink door.old door.new clock.old
+        reader.old writer.old writer.new result }
     ensures read { IsErrOf result RunFault.Read ↔ IsTrue (R.has_failed reader.new) }
     ensures write { IsErrOf result RunFault.Write ↔ IsTrue (W.has_failed writer.new) }
     ensures turns { IsErrOf result RunFault.Turns → ReadsTooOften (R.remaining reader.old) (R.reads reader.old) (R.reads reader.new) }

@@ -1,5 +1,6 @@
 -- What a folder of numbered files is, and what a crash may leave of it. A number without a file counts as one whose file has no byte.
 use Rattle.std.specs.Prelude.{◌≡◌, ◌≢◌, ◌⊎◌, ℕ, ◌≤◌, ◌<◌, zero, suc, nat_eq, if◌then◌else◌, List, [], ◌++◌}
+use Rattle.gw_spool.specs.declared.device.Device as device
 use Rattle.gw_spool.specs.Device.{LeavesOnly}
 use Rattle.gw_spool.specs.File.{Keeps, AllKeep}
 
@@ -29,6 +30,10 @@ left_at left_since (Doubtful d) t c = left_since d t c ⊎ (c ≡ [])
 -- a crash at any moment from old to new leaves at this number a file that has P
 abbrev pub LeavesAt : {D : Type 0} → (D → ℕ) → (D → ℕ → List ℕ → Type 0) → Slot D → Slot D → (List ℕ → Type 0) → Type 0
 LeavesAt moment left_since old new P = LeavesOnly (moment_at moment) (left_at left_since) old new P
+
+-- a crash at any moment from old to new leaves no more than it may leave of old
+abbrev pub LeavesNoMore : {D : Type 0} → device.Ghosts D → Slot D → Slot D → Type 0
+LeavesNoMore by old new = LeavesAt by.moment by.left_since old new (may_leave_at by.may_leave old)
 
 -- this lies at this number, and elsewhere what lay there
 abbrev pub put : {A : Type 0} → ℕ → A → (ℕ → A) → ℕ → A

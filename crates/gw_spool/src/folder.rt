@@ -1,7 +1,7 @@
 //! A folder of numbered files as a row sees it.
 ghost use Rattle.std.specs.Prelude.{◌≡◌, ℕ, IfOk, OnErr};
 ghost use Rattle.gw_spool.specs.Device.{Only};
-ghost use Rattle.gw_spool.specs.Folder.{Slot, There, Doubtful, LeavesAt, NoneOutside, SameBut, may_leave_at, put};
+ghost use Rattle.gw_spool.specs.Folder.{Slot, There, Doubtful, LeavesAt, LeavesNoMore, NoneOutside, SameBut, may_leave_at, put};
 
 use crate::device::{Device, DeviceFault};
 
@@ -25,10 +25,9 @@ pub trait Folder<D: Device> {
         ensures others { known self.old → SameBut number (files self.old) (files self.new) }
         ensures synced { IfOk result (λ d. Only (D.seen d) (D.may_leave d)) }
         ensures found { known self.old → IfOk result (λ d. may_leave_at D.may_leave (files self.old number) (D.seen d)) }
-        ensures any_moment { known self.old → IfOk result (λ d. LeavesAt D.moment D.left_since
-            (files self.old number) (There d) (may_leave_at D.may_leave (files self.old number))) }
-        ensures any_moment_err { known self.old → OnErr result (LeavesAt D.moment D.left_since
-            (files self.old number) (files self.new number) (may_leave_at D.may_leave (files self.old number))) };
+        ensures any_moment { known self.old → IfOk result (λ d. LeavesNoMore D.Device (files self.old number) (There d)) }
+        ensures any_moment_err { known self.old →
+            OnErr result (LeavesNoMore D.Device (files self.old number) (files self.new number)) };
 
     /// Gives a file back.
     fn close(&mut self, number: u64, file: D)

@@ -1,10 +1,10 @@
 //! Steps on the disk: a batch of entries is added, the end of a file is repaired, a file is cleared.
 //!
 //! An entry counts behind an open gate (1). A closed gate (0) stands behind the last one, on the disk before anything is written behind it.
-ghost use Rattle.std.specs.Prelude.{◌≡◌, ◌<◌, ◌≤◌, ◌^◌, ◌++◌, [], List, ℕ, length, take, drop, IfOk, OnOk, IsErrOf};
+ghost use Rattle.std.specs.Prelude.{◌≡◌, ◌<◌, ◌≤◌, ◌^◌, [], List, length, take, drop, IfOk, OnOk, IsErrOf};
 ghost use Rattle.gw_spool.specs.Device.{IsWritten, Torn, Cut, Only, LeavesOnly};
 ghost use Rattle.gw_spool.specs.File.{Entry, Has};
-ghost use Rattle.gw_spool.specs.own.Steps.{IsAtRest, Spells, HasEither, UpTo};
+ghost use Rattle.gw_spool.specs.own.Steps.{IsAtRest, Adds, LeavesAdded, LeavesCleared, UpTo};
 
 use crate::device::{Device, DeviceFault};
 
@@ -53,12 +53,8 @@ pub(crate) fn put<D: Device>(device: &mut D, end: usize, bytes: &[u8]) -> Result
     requires within { end < length (D.seen device.old) }
     requires durable { Only (D.seen device.old) (D.may_leave device.old) }
     requires some { 1 ≤ length bytes.now }
-    ensures put { (old more : List Entry) →
-        IsAtRest D.seen D.may_leave device.old end old → Spells bytes.now more →
-        IfOk result (λ next. IsAtRest D.seen D.may_leave device.new next (old ++ more)) }
-    ensures any_moment { (old more : List Entry) →
-        IsAtRest D.seen D.may_leave device.old end old → Spells bytes.now more →
-        LeavesOnly D.moment D.left_since device.old device.new (HasEither old (old ++ more)) }
+    ensures put { IfOk result (Adds D.Device device.old device.new end bytes.now) }
+    ensures any_moment { LeavesAdded D.Device device.old device.new end bytes.now }
     ensures failed { IsErrOf result DeviceFault.Failed → D.faults device.old < D.faults device.new }
 {
     let tail = behind_gate(bytes);
@@ -86,9 +82,7 @@ pub(crate) fn repair<D: Device>(device: &mut D, end: usize) -> Result<(), Device
 pub(crate) fn clear<D: Device>(device: &mut D) -> Result<(), DeviceFault>
     requires durable { Only (D.seen device.old) (D.may_leave device.old) }
     ensures cleared { OnOk result (IsAtRest D.seen D.may_leave device.new 0 []) }
-    ensures any_moment { (end : ℕ) (old : List Entry) →
-        IsAtRest D.seen D.may_leave device.old end old →
-        LeavesOnly D.moment D.left_since device.old device.new (HasEither old []) }
+    ensures any_moment { LeavesCleared D.Device device.old device.new }
     ensures failed { IsErrOf result DeviceFault.Failed → D.faults device.old < D.faults device.new }
 {
     // The first gate is closed on the disk before the cut: the first of the entries would stand for some of them.

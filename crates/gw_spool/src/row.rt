@@ -49,12 +49,12 @@ impl<D: Device> Model for Row<D> {
     } };
 }
 
-ghost use Rattle.std.specs.Prelude.{◌≡◌, ◌≢◌, ◌<◌, ◌≤◌, ◌+◌, [], List, ℕ, Some, Ok, length, IfOk, OnErr};
-ghost use Rattle.gw_spool.specs.File.{Keeps, AllKeep};
-ghost use Rattle.gw_spool.specs.Folder.{There, LeavesAt, SameBut, may_leave_at};
-ghost use Rattle.gw_spool.specs.Folder.{IsWhole, joined};
+ghost use Rattle.std.specs.Prelude.{◌≡◌, ◌<◌, ◌≤◌, ◌+◌, [], ℕ, Some, Ok, length, IfOk, OnErr};
+ghost use Rattle.gw_spool.specs.Folder.{There, SameBut, IsWhole, joined};
 ghost use Rattle.gw_spool.specs.Rows.{IsOpen, IsRow, put_reading, disk};
-ghost use Rattle.gw_spool.specs.own.Rowing.{AllAt, Goes, NoneBelow, IsOpenOrNone, IsFound, IsFilled, IsPassing, StillWaits, with_reading};
+ghost use Rattle.gw_spool.specs.own.Rowing.{ForRecords, LeavesSegment, IsOpenOrNone, GoesAt, GoesBelow, ForSegments, Finds};
+ghost use Rattle.gw_spool.specs.own.Rowing.{ForFilled, LeavesFilled, ForUsed, LeavesUsed, ForRow, LeavesRow, with_more, ForLast, without_first};
+ghost use Rattle.gw_spool.specs.own.Rowing.{Passes, LeavesPassing, DropsFirst, LeavesFirst, KeepsFirst};
 
 // The spool over the segment of this number. At `Err` the segment is closed.
 fn open_segment<D: Device + Drop, F: Folder<D>>(
@@ -64,15 +64,11 @@ fn open_segment<D: Device + Drop, F: Folder<D>>(
 ) -> Result<Spool<D>, SpoolFault>
     ensures known { F.known folder.old → F.known folder.new }
     ensures others { F.known folder.old → SameBut number (F.files folder.old) (F.files folder.new) }
-    ensures opened { F.known folder.old → (records : List (List ℕ)) →
-        AllKeep records (may_leave_at D.may_leave (F.files folder.old number)) →
-        IfOk result (λ s. IsOpen D.may_leave s records []) }
-    ensures any_moment { F.known folder.old → (records : List (List ℕ)) →
-        AllKeep records (may_leave_at D.may_leave (F.files folder.old number)) →
-        IfOk result (λ s. LeavesAt D.moment D.left_since (F.files folder.old number) (There s.device) (Keeps records)) }
-    ensures any_moment_err { F.known folder.old → (records : List (List ℕ)) →
-        AllKeep records (may_leave_at D.may_leave (F.files folder.old number)) →
-        OnErr result (LeavesAt D.moment D.left_since (F.files folder.old number) (F.files folder.new number) (Keeps records)) }
+    ensures opened { IfOk result (λ s.
+        ForRecords D.Device F.Folder folder.old number (λ records. IsOpen D.may_leave s records [])) }
+    ensures any_moment { IfOk result (λ s. LeavesSegment D.Device F.Folder folder.old number (There s.device)) }
+    ensures any_moment_err { OnErr result
+        (LeavesSegment D.Device F.Folder folder.old number (F.files folder.new number)) }
     ensures whole { F.known folder.old → IfOk result (λ s. IsWhole D.may_leave (F.files folder.old number)) }
 {
     let file = folder.open(number)?;
@@ -103,12 +99,9 @@ fn count_one<D: Device + Drop, F: Folder<D>>(
     count: u64,
 ) -> Result<u64, RowFault>
     ensures known { F.known folder.old → F.known folder.new }
-    ensures any_moment { F.known folder.old → (skip : ℕ) (each : ℕ → List (List ℕ)) →
-        AllAt D.may_leave skip each (F.files folder.old) → number ≢ skip →
-        Goes D.moment D.left_since skip each (F.files folder.old) (F.files folder.new) }
-    ensures counted { F.known folder.old → (records : List (List ℕ)) →
-        AllKeep records (may_leave_at D.may_leave (F.files folder.old number)) →
-        IfOk result (λ more. more ≡ count + length records) }
+    ensures any_moment { GoesAt D.Device F.Folder folder.old number (F.files folder.new) }
+    ensures counted { IfOk result (λ more.
+        ForRecords D.Device F.Folder folder.old number (λ records. more ≡ count + length records)) }
     ensures others { F.known folder.old → SameBut number (F.files folder.old) (F.files folder.new) }
     ensures whole { F.known folder.old → IfOk result (λ more. IsWhole D.may_leave (F.files folder.old number)) }
 {
@@ -132,12 +125,9 @@ fn count_all<D: Device + Drop, F: Folder<D>>(
     last: u64,
 ) -> Result<u64, RowFault>
     ensures known { F.known folder.old → F.known folder.new }
-    ensures any_moment { F.known folder.old → (skip : ℕ) (each : ℕ → List (List ℕ)) → last ≤ skip →
-        AllAt D.may_leave skip each (F.files folder.old) →
-        Goes D.moment D.left_since skip each (F.files folder.old) (F.files folder.new) }
-    ensures counted { F.known folder.old → (skip : ℕ) (each : ℕ → List (List ℕ)) → last ≤ skip →
-        AllAt D.may_leave skip each (F.files folder.old) → NoneBelow first each → first ≤ last →
-        IfOk result (λ count. count ≡ length (joined each last)) }
+    ensures any_moment { GoesBelow D.Device F.Folder folder.old last (F.files folder.new) }
+    ensures counted { IfOk result (λ count.
+        ForSegments D.Device F.Folder folder.old first last (λ skip each. count ≡ length (joined each last))) }
     ensures rest { F.known folder.old → first ≤ last →
         IfOk result (λ count. (n : ℕ) → last ≤ n → F.files folder.new n ≡ F.files folder.old n) }
     ensures whole { F.known folder.old →
@@ -157,15 +147,11 @@ fn open_or_remove<D: Device + Drop, F: Folder<D>>(
     number: u64,
 ) -> Result<Option<Spool<D>>, RowFault>
     ensures known { F.known folder.old → F.known folder.new }
-    ensures any_moment_err { F.known folder.old → (skip : ℕ) (each : ℕ → List (List ℕ)) →
-        AllAt D.may_leave skip each (F.files folder.old) → number ≢ skip →
-        OnErr result (Goes D.moment D.left_since skip each (F.files folder.old) (F.files folder.new)) }
-    ensures any_moment { F.known folder.old → (skip : ℕ) (each : ℕ → List (List ℕ)) →
-        AllAt D.may_leave skip each (F.files folder.old) → number ≢ skip →
-        IfOk result (λ r. Goes D.moment D.left_since skip each (F.files folder.old) (put_reading number r (F.files folder.new))) }
-    ensures found { F.known folder.old → (records : List (List ℕ)) →
-        AllKeep records (may_leave_at D.may_leave (F.files folder.old number)) →
-        IfOk result (IsOpenOrNone D.may_leave records) }
+    ensures any_moment_err { OnErr result (GoesAt D.Device F.Folder folder.old number (F.files folder.new)) }
+    ensures any_moment { IfOk result (λ r.
+        GoesAt D.Device F.Folder folder.old number (put_reading number r (F.files folder.new))) }
+    ensures found { IfOk result (λ r.
+        ForRecords D.Device F.Folder folder.old number (λ records. IsOpenOrNone D.may_leave records r)) }
 {
     let spool = match open_segment(alloc, folder, number) {
         Ok(spool) => spool,
@@ -186,13 +172,8 @@ fn first_with_record<D: Device + Drop, F: Folder<D>>(
     last: u64,
 ) -> Result<(u64, Option<Spool<D>>), RowFault>
     ensures known { F.known folder.old → F.known folder.new }
-    ensures any_moment_err { F.known folder.old → (skip : ℕ) (each : ℕ → List (List ℕ)) → last ≤ skip →
-        AllAt D.may_leave skip each (F.files folder.old) →
-        OnErr result (Goes D.moment D.left_since skip each (F.files folder.old) (F.files folder.new)) }
-    ensures found { F.known folder.old → (skip : ℕ) (each : ℕ → List (List ℕ)) → last ≤ skip →
-        AllAt D.may_leave skip each (F.files folder.old) → NoneBelow first each → first ≤ last →
-        IfOk result (λ r. IsFound D.moment D.left_since D.may_leave skip last each
-        (F.files folder.old) (F.files folder.new) r.0 r.1) }
+    ensures any_moment_err { OnErr result (GoesBelow D.Device F.Folder folder.old last (F.files folder.new)) }
+    ensures found { IfOk result (Finds D.Device F.Folder folder.old folder.new first last) }
 {
     for number in first..last {
         match open_or_remove(alloc, folder, number) {
@@ -225,17 +206,11 @@ fn open_ends<D: Device + Drop, F: Folder<D>>(
     waiting: u64,
 ) -> Result<Row<D>, RowFault>
     ensures known { F.known folder.old → F.known folder.new }
-    ensures row { F.known folder.old → (each : ℕ → List (List ℕ)) →
-        IsFilled D.may_leave (F.files folder.old) first last each →
-        IfOk result (λ row. IsRow D.may_leave row (F.files folder.new) each []) }
-    ensures any_moment { F.known folder.old → (each : ℕ → List (List ℕ)) →
-        IsFilled D.may_leave (F.files folder.old) first last each →
-        IfOk result (λ row. (n : ℕ) → LeavesAt D.moment D.left_since (F.files folder.old n)
-        (disk row (F.files folder.new) n) (Keeps (each n))) }
-    ensures any_moment_err { F.known folder.old → (each : ℕ → List (List ℕ)) →
-        IsFilled D.may_leave (F.files folder.old) first last each →
-        OnErr result ((n : ℕ) → LeavesAt D.moment D.left_since (F.files folder.old n)
-        (F.files folder.new n) (Keeps (each n))) }
+    ensures row { IfOk result (λ row.
+        ForFilled D.Device F.Folder folder.old first last (λ each. IsRow D.may_leave row (F.files folder.new) each [])) }
+    ensures any_moment { IfOk result (λ row.
+        LeavesFilled D.Device F.Folder folder.old first last (disk row (F.files folder.new))) }
+    ensures any_moment_err { OnErr result (LeavesFilled D.Device F.Folder folder.old first last (F.files folder.new)) }
     ensures waiting { IfOk result (λ row. row.waiting ≡ waiting) }
 {
     let (first, reading) = match first_with_record(alloc, folder, first, last) {
@@ -260,29 +235,23 @@ fn open_ends<D: Device + Drop, F: Folder<D>>(
 }
 
 impl<D: Device + Drop> Row<D> {
-    ghost use Rattle.std.specs.Prelude.{◌≡◌, ◌≢◌, ◌⊎◌, ◌+◌, ◌-◌, ◌++◌, ◌∷◌, [], ℕ, List, None, true};
+    ghost use Rattle.std.specs.Prelude.{◌≡◌, ◌≢◌, ◌⊎◌, ◌+◌, ◌-◌, ◌++◌, ◌∷◌, [], ℕ, None, true};
     ghost use Rattle.std.specs.Prelude.{slice_get, length, drop, option_map, IfOk, OnOk, OnErr};
-    ghost use Rattle.gw_spool.specs.File.{Keeps, KeepsEither};
-    ghost use Rattle.gw_spool.specs.Folder.{Slot, LeavesAt, HoldsAll, FilesKeep, FilesKeepEither, put};
-    ghost use Rattle.gw_spool.specs.Rows.{IsRow, Waits, HasFailed, LeavesFiles, disk};
+    ghost use Rattle.gw_spool.specs.Rows.{IsRow, Waits, HasFailed, disk, ForWaiting};
+    ghost use Rattle.gw_spool.specs.Rows.{Opens, LeavesHeld, WaitsWithAll, WaitsButFirst, WaitsOrFails, LeavesEither};
 
     /// The records that the segments of a folder keep, in the order of their numbers. Each segment is read: one that is damaged is a fault.
     pub fn open<F: Folder<D>>(alloc: Global, folder: &mut F) -> Result<Row<D>, RowFault>
         ensures known { F.known folder.old → F.known folder.new }
-        ensures kept { F.known folder.old → (kept : List (List ℕ)) → HoldsAll D.may_leave (F.files folder.old) kept →
-            IfOk result (λ row. Waits D.may_leave row (F.files folder.new) kept []) }
+        ensures kept { IfOk result (Opens D.Device F.Folder folder.old folder.new) }
 
         // None that is damaged is passed over.
         ensures whole { F.known folder.old →
             IfOk result (λ row. (n : ℕ) → IsWhole D.may_leave (F.files folder.old n)) }
 
         // A crash at any moment leaves the same records.
-        ensures any_moment { F.known folder.old → (kept : List (List ℕ)) → HoldsAll D.may_leave (F.files folder.old) kept →
-            IfOk result (λ row. LeavesFiles D.moment D.left_since D.may_leave (F.files folder.old)
-            (disk row (F.files folder.new)) (FilesKeep kept)) }
-        ensures any_moment_err { F.known folder.old → (kept : List (List ℕ)) → HoldsAll D.may_leave (F.files folder.old) kept →
-            OnErr result (LeavesFiles D.moment D.left_since D.may_leave (F.files folder.old)
-            (F.files folder.new) (FilesKeep kept)) }
+        ensures any_moment { IfOk result (λ row. LeavesHeld D.Device F.Folder folder.old (disk row (F.files folder.new))) }
+        ensures any_moment_err { OnErr result (LeavesHeld D.Device F.Folder folder.old (F.files folder.new)) }
     {
         let (first, last) = match folder.numbers() {
             Ok(ends) => ends,
@@ -309,17 +278,15 @@ impl<D: Device + Drop> Row<D> {
 
     /// How many records are synced and not acknowledged.
     pub fn waiting(&self) -> u64
-        ensures { (slots : ℕ → Slot D) (kept appended : List (List ℕ)) →
-            Waits D.may_leave self.now slots kept appended → result ≡ length kept }
+        ensures { ForWaiting D.Device self.now (λ slots kept appended. result ≡ length kept) }
     {
         self.waiting
     }
 
     /// The first record that is synced and not acknowledged.
     pub fn first(&self) -> Option<&[u8]>
-        ensures { (slots : ℕ → Slot D) (kept appended : List (List ℕ)) →
-            Waits D.may_leave self.now slots kept appended →
-            option_map (λ bytes. bytes.now) result ≡ slice_get kept 0 }
+        ensures { ForWaiting D.Device self.now (λ slots kept appended.
+            option_map (λ bytes. bytes.now) result ≡ slice_get kept 0) }
     {
         match &self.reading {
             Some(spool) => spool.first(),
@@ -329,12 +296,10 @@ impl<D: Device + Drop> Row<D> {
 
     /// Puts a record behind the others; it is kept once it is synced.
     pub fn append(&mut self, bytes: &[u8]) -> Result<(), SpoolFault>
-        ensures ok { (slots : ℕ → Slot D) (kept appended : List (List ℕ)) →
-            Waits D.may_leave self.old slots kept appended →
-            OnOk result (Waits D.may_leave self.new slots kept (appended ++ bytes.now ∷ [])) }
-        ensures err { (slots : ℕ → Slot D) (kept appended : List (List ℕ)) →
-            Waits D.may_leave self.old slots kept appended →
-            OnErr result (Waits D.may_leave self.new slots kept appended) }
+        ensures ok { ForWaiting D.Device self.old (λ slots kept appended.
+            OnOk result (Waits D.may_leave self.new slots kept (appended ++ bytes.now ∷ []))) }
+        ensures err { ForWaiting D.Device self.old (λ slots kept appended.
+            OnErr result (Waits D.may_leave self.new slots kept appended)) }
     {
         if self.is_lost {
             return Err(SpoolFault::Device);
@@ -346,13 +311,9 @@ impl<D: Device + Drop> Row<D> {
     fn begin_next<F: Folder<D>>(&mut self, folder: &mut F)
         ensures known { F.known folder.old → F.known folder.new }
         ensures waiting { self.new.waiting ≡ self.old.waiting }
-        ensures row { F.known folder.old → (each : ℕ → List (List ℕ)) →
-            IsRow D.may_leave self.old (F.files folder.old) each [] → each self.old.last ≢ [] →
-            IsRow D.may_leave self.new (F.files folder.new) each [] }
-        ensures any_moment { F.known folder.old → (each : ℕ → List (List ℕ)) →
-            IsRow D.may_leave self.old (F.files folder.old) each [] → each self.old.last ≢ [] →
-            (n : ℕ) → LeavesAt D.moment D.left_since (disk self.old (F.files folder.old) n)
-            (disk self.new (F.files folder.new) n) (Keeps (each n)) }
+        ensures row { ForUsed D.Device F.Folder self.old folder.old (λ each.
+            IsRow D.may_leave self.new (F.files folder.new) each []) }
+        ensures any_moment { LeavesUsed D.Device F.Folder self.old self.new folder.old folder.new }
     {
         let Some(next) = self.last.checked_add(1) else {
             return;
@@ -372,17 +333,12 @@ impl<D: Device + Drop> Row<D> {
 
     // Brings all that was appended to the disk. Says whether the next segment is to be begun.
     fn sync_last(&mut self) -> Result<bool, SpoolFault>
-        ensures row { (slots : ℕ → Slot D) (each : ℕ → List (List ℕ)) (appended : List (List ℕ)) →
-            IsRow D.may_leave self.old slots each appended →
-            OnOk result (IsRow D.may_leave self.new slots
-            (put self.old.last (each self.old.last ++ appended) each) []) }
-        ensures any_moment { (slots : ℕ → Slot D) (each : ℕ → List (List ℕ)) (appended : List (List ℕ)) →
-            IsRow D.may_leave self.old slots each appended →
-            (n : ℕ) → LeavesAt D.moment D.left_since (disk self.old slots n) (disk self.new slots n)
-            (KeepsEither (each n) (put self.old.last (each self.old.last ++ appended) each n)) }
-        ensures err { (slots : ℕ → Slot D) (each : ℕ → List (List ℕ)) (appended : List (List ℕ)) →
-            IsRow D.may_leave self.old slots each appended →
-            OnErr result (IsRow D.may_leave self.new slots each appended ⊎ HasFailed self.new) }
+        ensures row { ForRow D.Device self.old (λ slots each more.
+            OnOk result (IsRow D.may_leave self.new slots (with_more self.old.last more each) [])) }
+        ensures any_moment { ForRow D.Device self.old (λ slots each more.
+            LeavesRow D.Device self.old self.new slots each (with_more self.old.last more each)) }
+        ensures err { ForRow D.Device self.old (λ slots each more.
+            OnErr result (IsRow D.may_leave self.new slots each more ⊎ HasFailed self.new)) }
         ensures waiting { OnOk result (self.new.waiting ≡ self.old.waiting + length self.old.writing.appended) }
         ensures waiting_err { OnErr result (self.new.waiting ≡ self.old.waiting) }
         ensures last { self.new.last ≡ self.old.last }
@@ -407,18 +363,12 @@ impl<D: Device + Drop> Row<D> {
     /// At `Ok` all that was appended is kept, whatever crash comes. Behind a segment of 1 MiB or more the next one is begun.
     pub fn sync<F: Folder<D>>(&mut self, folder: &mut F) -> Result<(), SpoolFault>
         ensures known { F.known folder.old → F.known folder.new }
-        ensures ok { F.known folder.old → (kept appended : List (List ℕ)) →
-            Waits D.may_leave self.old (F.files folder.old) kept appended →
-            OnOk result (Waits D.may_leave self.new (F.files folder.new) (kept ++ appended) []) }
-        ensures err { F.known folder.old → (kept appended : List (List ℕ)) →
-            Waits D.may_leave self.old (F.files folder.old) kept appended →
-            OnErr result (Waits D.may_leave self.new (F.files folder.new) kept appended ⊎ HasFailed self.new) }
+        ensures ok { OnOk result (WaitsWithAll D.Device F.Folder self.old self.new folder.old folder.new) }
+        ensures err { OnErr result (WaitsOrFails D.Device F.Folder self.old self.new folder.old folder.new) }
 
         // A crash at any moment leaves what was synced, or that with all that was appended.
-        ensures any_moment { F.known folder.old → (kept appended : List (List ℕ)) →
-            Waits D.may_leave self.old (F.files folder.old) kept appended →
-            LeavesFiles D.moment D.left_since D.may_leave (disk self.old (F.files folder.old))
-            (disk self.new (F.files folder.new)) (FilesKeepEither kept (kept ++ appended)) }
+        ensures any_moment { LeavesEither D.Device F.Folder self.old self.new folder.old folder.new
+            (λ kept appended. kept ++ appended) }
     {
         match self.sync_last() {
             Ok(true) => {
@@ -432,17 +382,12 @@ impl<D: Device + Drop> Row<D> {
 
     // Drops the first record of the last segment, which is the only one that is open.
     fn acknowledge_last(&mut self) -> Result<(), RowFault>
-        ensures row { (slots : ℕ → Slot D) (each : ℕ → List (List ℕ)) (appended : List (List ℕ)) →
-            IsRow D.may_leave self.old slots each appended → self.old.reading ≡ None →
-            OnOk result (IsRow D.may_leave self.new slots
-            (put self.old.last (drop 1 (each self.old.last)) each) appended) }
-        ensures any_moment { (slots : ℕ → Slot D) (each : ℕ → List (List ℕ)) (appended : List (List ℕ)) →
-            IsRow D.may_leave self.old slots each appended → self.old.reading ≡ None →
-            (n : ℕ) → LeavesAt D.moment D.left_since (disk self.old slots n) (disk self.new slots n)
-            (KeepsEither (each n) (put self.old.last (drop 1 (each self.old.last)) each n)) }
-        ensures err { (slots : ℕ → Slot D) (each : ℕ → List (List ℕ)) (appended : List (List ℕ)) →
-            IsRow D.may_leave self.old slots each appended → self.old.reading ≡ None →
-            OnErr result (IsRow D.may_leave self.new slots each appended ⊎ HasFailed self.new) }
+        ensures row { ForLast D.Device self.old (λ slots each more.
+            OnOk result (IsRow D.may_leave self.new slots (without_first self.old.last each) more)) }
+        ensures any_moment { ForLast D.Device self.old (λ slots each more.
+            LeavesRow D.Device self.old self.new slots each (without_first self.old.last each)) }
+        ensures err { ForLast D.Device self.old (λ slots each more.
+            OnErr result (IsRow D.may_leave self.new slots each more ⊎ HasFailed self.new)) }
         ensures waiting { OnOk result (self.new.waiting ≡ self.old.waiting - 1) }
         ensures waiting_err { OnErr result (self.new.waiting ≡ self.old.waiting) }
     {
@@ -459,14 +404,8 @@ impl<D: Device + Drop> Row<D> {
     fn advance<F: Folder<D>>(&mut self, folder: &mut F, spool: Spool<D>) -> Result<(), RowFault>
         requires { self.old.reading ≡ None }
         ensures known { F.known folder.old → F.known folder.new }
-        ensures row { F.known folder.old → (each : ℕ → List (List ℕ)) (appended : List (List ℕ)) →
-            IsPassing D.may_leave self.old spool (F.files folder.old) each appended →
-            OnOk result (IsRow D.may_leave self.new (F.files folder.new) each appended) }
-        ensures any_moment { F.known folder.old → (each : ℕ → List (List ℕ)) (appended : List (List ℕ)) →
-            IsPassing D.may_leave self.old spool (F.files folder.old) each appended →
-            (n : ℕ) → LeavesAt D.moment D.left_since
-            (disk (with_reading self.old spool) (F.files folder.old) n)
-            (disk self.new (F.files folder.new) n) (Keeps (each n)) }
+        ensures row { OnOk result (Passes D.Device F.Folder self.old self.new spool folder.old folder.new) }
+        ensures any_moment { LeavesPassing D.Device F.Folder self.old self.new spool folder.old folder.new }
         ensures failed { OnErr result (HasFailed self.new) }
         ensures waiting { self.new.waiting ≡ self.old.waiting }
     {
@@ -496,19 +435,9 @@ impl<D: Device + Drop> Row<D> {
     ) -> Result<(), RowFault>
         requires { self.old.reading ≡ None }
         ensures known { F.known folder.old → F.known folder.new }
-        ensures row { F.known folder.old → (each : ℕ → List (List ℕ)) (appended : List (List ℕ)) →
-            IsRow D.may_leave (with_reading self.old spool) (F.files folder.old) each appended →
-            OnOk result (IsRow D.may_leave self.new (F.files folder.new)
-            (put self.old.first (drop 1 (each self.old.first)) each) appended) }
-        ensures any_moment { F.known folder.old → (each : ℕ → List (List ℕ)) (appended : List (List ℕ)) →
-            IsRow D.may_leave (with_reading self.old spool) (F.files folder.old) each appended →
-            (n : ℕ) → LeavesAt D.moment D.left_since
-            (disk (with_reading self.old spool) (F.files folder.old) n)
-            (disk self.new (F.files folder.new) n)
-            (KeepsEither (each n) (put self.old.first (drop 1 (each self.old.first)) each n)) }
-        ensures err { F.known folder.old → (each : ℕ → List (List ℕ)) (appended : List (List ℕ)) →
-            IsRow D.may_leave (with_reading self.old spool) (F.files folder.old) each appended →
-            OnErr result (StillWaits D.may_leave self.new (F.files folder.new) each appended self.old.waiting ⊎ HasFailed self.new) }
+        ensures row { OnOk result (DropsFirst D.Device F.Folder self.old self.new spool folder.old folder.new) }
+        ensures any_moment { LeavesFirst D.Device F.Folder self.old self.new spool folder.old folder.new }
+        ensures err { OnErr result (KeepsFirst D.Device F.Folder self.old self.new spool folder.old folder.new) }
         ensures waiting { OnOk result (self.new.waiting ≡ self.old.waiting - 1) }
     {
         let mut spool = spool;
@@ -530,18 +459,12 @@ impl<D: Device + Drop> Row<D> {
     /// At `Ok` the first record is never given again, whatever crash comes. Where none waits, nothing is done.
     pub fn acknowledge<F: Folder<D>>(&mut self, folder: &mut F) -> Result<(), RowFault>
         ensures known { F.known folder.old → F.known folder.new }
-        ensures ok { F.known folder.old → (kept appended : List (List ℕ)) →
-            Waits D.may_leave self.old (F.files folder.old) kept appended →
-            OnOk result (Waits D.may_leave self.new (F.files folder.new) (drop 1 kept) appended) }
-        ensures err { F.known folder.old → (kept appended : List (List ℕ)) →
-            Waits D.may_leave self.old (F.files folder.old) kept appended →
-            OnErr result (Waits D.may_leave self.new (F.files folder.new) kept appended ⊎ HasFailed self.new) }
+        ensures ok { OnOk result (WaitsButFirst D.Device F.Folder self.old self.new folder.old folder.new) }
+        ensures err { OnErr result (WaitsOrFails D.Device F.Folder self.old self.new folder.old folder.new) }
 
         // A crash at any moment leaves what was synced, with the first record or without.
-        ensures any_moment { F.known folder.old → (kept appended : List (List ℕ)) →
-            Waits D.may_leave self.old (F.files folder.old) kept appended →
-            LeavesFiles D.moment D.left_since D.may_leave (disk self.old (F.files folder.old))
-            (disk self.new (F.files folder.new)) (FilesKeepEither kept (drop 1 kept)) }
+        ensures any_moment { LeavesEither D.Device F.Folder self.old self.new folder.old folder.new
+            (λ kept appended. drop 1 kept) }
     {
         if self.is_lost {
             return Err(RowFault {

@@ -127,7 +127,7 @@ impl<D: Device> Spool<D> {
     ghost use Rattle.std.specs.Prelude.{slice_get, length, drop, option_map, IfOk, IfErr, IsErrOf, OnOk, OnErr};
     ghost use Rattle.gw_spool.specs.Device.{LeavesOnly, Only};
     ghost use Rattle.gw_spool.specs.File.{Keeps, KeepsAs, KeepsEither, AllKeep, IsDamagedAt};
-    ghost use Rattle.gw_spool.specs.State.{Breaks, Stands, SameRecords, all_of, with_appended, IsFull};
+    ghost use Rattle.gw_spool.specs.State.{Breaks, Leaves, Stands, SameRecords, all_of, with_appended, HasNoRoom};
 
     /// The records that a file keeps, of a device that a crash may have left. It may crash too. After `Damaged` the file is as it was.
     pub fn open(alloc: Global, device: D) -> Result<Spool<D>, (SpoolFault, D)>
@@ -195,13 +195,10 @@ impl<D: Device> Spool<D> {
             AllKeep self.new.kept (D.may_leave self.new.device) }
 
         // A crash at any moment leaves what was synced, or that with all that was appended.
-        ensures any_moment { self.old.broken ≡ false →
-            LeavesOnly D.moment D.left_since self.old.device self.new.device
-            (KeepsEither self.old.kept (all_of self.old)) }
+        ensures any_moment { Leaves D.Device self.old self.new (KeepsEither self.old.kept (all_of self.old)) }
         ensures failed { IsErrOf result SpoolFault.Device → Breaks D.faults self.old self.new }
         ensures unbroken { OnErr result ((self.new ≡ self.old) ⊎ (self.new.broken ≡ true)) }
-        ensures full { IsErrOf result SpoolFault.Full ↔
-            ((self.old.broken ≡ false) × (self.old.appended ≢ []) × IsFull (D.seen self.old.device)) }
+        ensures full { IsErrOf result SpoolFault.Full ↔ HasNoRoom D.seen self.old self.old.appended }
         ensures at_full { IsErrOf result SpoolFault.Full → self.new ≡ self.old }
         ensures broken { self.old.broken ≡ true →
             IsErrOf result SpoolFault.Device × (self.new ≡ self.old) }
@@ -241,13 +238,10 @@ impl<D: Device> Spool<D> {
             AllKeep self.new.kept (D.may_leave self.new.device) }
 
         // A crash at any moment leaves what was synced, with the first record or without.
-        ensures any_moment { self.old.broken ≡ false →
-            LeavesOnly D.moment D.left_since self.old.device self.new.device
-            (KeepsEither self.old.kept (drop 1 self.old.kept)) }
+        ensures any_moment { Leaves D.Device self.old self.new (KeepsEither self.old.kept (drop 1 self.old.kept)) }
         ensures failed { IsErrOf result SpoolFault.Device → Breaks D.faults self.old self.new }
         ensures unbroken { OnErr result ((self.new ≡ self.old) ⊎ (self.new.broken ≡ true)) }
-        ensures full { IsErrOf result SpoolFault.Full ↔
-            ((self.old.broken ≡ false) × (self.old.kept ≢ []) × IsFull (D.seen self.old.device)) }
+        ensures full { IsErrOf result SpoolFault.Full ↔ HasNoRoom D.seen self.old self.old.kept }
         ensures at_full { IsErrOf result SpoolFault.Full → self.new ≡ self.old }
         ensures broken { self.old.broken ≡ true →
             IsErrOf result SpoolFault.Device × (self.new ≡ self.old) }
@@ -285,8 +279,7 @@ impl<D: Device> Spool<D> {
             AllKeep self.new.kept (D.may_leave self.new.device) }
 
         // A crash at any moment leaves the same records.
-        ensures any_moment { self.old.broken ≡ false →
-            LeavesOnly D.moment D.left_since self.old.device self.new.device (Keeps self.old.kept) }
+        ensures any_moment { Leaves D.Device self.old self.new (Keeps self.old.kept) }
         ensures failed { IsErrOf result SpoolFault.Device → Breaks D.faults self.old self.new }
         ensures unbroken { OnErr result ((self.new ≡ self.old) ⊎ (self.new.broken ≡ true)) }
         ensures broken { self.old.broken ≡ true →

@@ -71,3 +71,7 @@ pub record IsSaidUnder (Judged : Message → Reply → Type 0) (stamp : List ℕ
 -- the answer of this number to a content
 abbrev pub IsAnswer : (Message → Reply → Type 0) → List ℕ → ℕ → List ℕ → Answer → Type 0
 IsAnswer Judged stamp number = IsSettled (IsSaidUnder Judged stamp number)
+
+-- a content has one answer of this stamp and number at most
+abbrev pub HasOneAnswer : (Message → Reply → Type 0) → List ℕ → ℕ → List ℕ → Type 0
+HasOneAnswer Judged stamp number content = (a b : Answer) → IsAnswer Judged stamp number content a → IsAnswer Judged stamp number content b → a ≡ b

@@ -1,15 +1,16 @@
 -- Contents that are answered in turn, by a judge whose state changes with each.
-use Rattle.std.specs.Prelude.{◌≡◌, ℕ, ◌+◌, List, [], ◌∷◌, ◌++◌, length, map, Option, IfSome}
+use Rattle.std.specs.Prelude.{◌≡◌, ℕ, ◌+◌, List, [], ◌∷◌, ◌++◌, length, map, Option, IfSome, Result}
 use Rattle.std.specs.Io.KnownBytes.{Appends}
 use Rattle.std.specs.List.{flat_map}
 use Rattle.gw_ack.specs.declared.reply.Reply.{Reply}
 use Rattle.gw_mllp.specs.Stream.{Has, Tail, block}
 use Rattle.gw_stream.specs.declared.counts.Counts.{Counts}
+use Rattle.gw_stream.specs.declared.fault.RunFault.{RunFault}
 use Rattle.gw_stream.specs.declared.judge.Outcome.{Outcome}
 use Rattle.gw_stream.specs.Answers.{Answer, IsReadAs, IsSaidUnder, IsSettled, Message}
 use Rattle.gw_stream.specs.Counted.{nothing, with_answer}
 use Rattle.gw_stream.specs.Sent.{SendsPart}
-use Rattle.gw_stream.specs.Streams.{HasFirst}
+use Rattle.gw_stream.specs.Streams.{Ends, HasFirst}
 
 -- a content and its answer
 pub record Exchange : Type 0 where
@@ -62,6 +63,11 @@ module _ {S : Type 0} (Settles : S → S → ℕ → Option Message → Outcome 
       pub first : IfSome stream (λ bytes. HasFirst bytes (map content_of done ++ others))
       pub bytes : SendsPart before after (blocks_of done)
 
+    -- what a run did, by its result: all blocks were settled, or the first ones
+    abbrev pub EndsExchanged : Option (List ℕ) → S → S → Option (List ℕ) → Option (List ℕ) → Result Counts RunFault → Type 0
+    EndsExchanged stream old new before after result =
+        Ends (AllExchanged stream old new before after) (λ fault. SomeExchanged stream old new before after) result
+
 -- ---- by what is said to each message alone
 
 -- each answer has this stamp, and the number of its block; nothing is kept from one to the next
@@ -75,3 +81,8 @@ AnswersAll Judged stamp stream before after = AllExchanged (Answers Judged stamp
 -- known bytes grew by a beginning of the blocks of the answers to the first blocks of the stream
 abbrev pub AnswersPart : (Message → Reply → Type 0) → List ℕ → Option (List ℕ) → Option (List ℕ) → Option (List ℕ) → Type 0
 AnswersPart Judged stamp stream before after = SomeExchanged (Answers Judged stamp) (λ old new what. Unit {0}) stream tt tt before after
+
+-- what a run did, by its result: all blocks were answered, or the first ones
+abbrev pub EndsAnswered : (Message → Reply → Type 0) → List ℕ → Option (List ℕ) → Option (List ℕ) → Option (List ℕ) → Result Counts RunFault → Type 0
+EndsAnswered Judged stamp stream before after result =
+    Ends (AnswersAll Judged stamp stream before after) (λ fault. AnswersPart Judged stamp stream before after) result

@@ -1,7 +1,9 @@
 -- What a run sends to its writers, in order: one writer for the answers, and one for each receiver.
-use Rattle.std.specs.Prelude.{ℕ, ◌==◌, Bool, true, false, ◌||◌, if◌then◌else◌, List, [], ◌∷◌, ◌++◌, map, Option, None, slice_index_or}
+use Rattle.std.specs.Prelude.{ℕ, ◌==◌, Bool, true, false, ◌||◌, if◌then◌else◌, List, [], ◌∷◌, ◌++◌, map, Option, None, Vec, slice_index_or}
 use Rattle.std.specs.Io.KnownBytes.{Appends}
 use Rattle.std.specs.List.{list_any}
+use Rattle.std.specs.declared.alloc.Global.{Global}
+use Rattle.gw_stream.specs.declared.sink.Sink as sink
 use Rattle.gw_stream.specs.Sent.{BeginsWith}
 
 -- the sender of the messages, who is answered, or the receiver of this number
@@ -20,6 +22,10 @@ pub record Post : Type 0 where
   pub whom : Whom
   pub bytes : List ℕ
 
+-- one, for the receiver of this number
+abbrev pub one_for : ℕ → List ℕ → List Post
+one_for number bytes = record { whom = receiver number; bytes = bytes } ∷ []
+
 -- those for this one, in order
 abbrev pub bytes_to : Whom → List Post → List ℕ
 bytes_to whom [] = []
@@ -33,6 +39,11 @@ pub record Known : Type 0 where
 -- by what each of them says of itself
 abbrev pub known : {A W : Type 0} → (A → Option (List ℕ)) → (W → Option (List ℕ)) → A → List W → Known
 known by_answers by_out answers outs = record { to_sender = by_answers answers; to_receivers = map by_out outs }
+
+-- what the writers hold has changed in this way
+abbrev pub Changes : {A W : Type 0} → sink.Ghosts A → sink.Ghosts W → A → A → Vec W Global → Vec W Global → (Known → Known → Type 0) → Type 0
+Changes by_answers by_out answers answers' outs outs' So =
+    So (known by_answers.contents by_out.contents answers outs.items) (known by_answers.contents by_out.contents answers' outs'.items)
 
 -- what the writer to this one holds
 abbrev pub held_by : Known → Whom → Option (List ℕ)

@@ -22,7 +22,7 @@ use Rattle.gw_stream.specs.declared.judge.Outcome.{Outcome}
 use Rattle.gw_stream.specs.Answers.{Answer, IsSaidUnder, IsSettled, Message, Validated}
 use Rattle.gw_stream.specs.Counted.{nothing, with_one}
 use Rattle.gw_stream.specs.Posts.{Known, Post, Sends, SendsSome, receiver, sender}
-use Rattle.gw_stream.specs.Streams.{HasFirst}
+use Rattle.gw_stream.specs.Streams.{Ends, HasFirst}
 
 -- ---- what is said
 
@@ -135,3 +135,7 @@ pub record ServesPart (plan : PlanValue) (stamp : List ℕ) (stream : Option (Li
 abbrev pub ServesUntil : PlanValue → List ℕ → Option (List ℕ) → Known → Known → RunFault → Type 0
 ServesUntil plan stamp stream before after Write = ServesPart plan stamp stream before after
 ServesUntil plan stamp stream before after fault = ServesFirst plan stamp stream before after
+
+-- what a run did, by its result
+abbrev pub EndsServed : PlanValue → List ℕ → Option (List ℕ) → Result Counts RunFault → Known → Known → Type 0
+EndsServed plan stamp stream result before after = Ends (ServesAll plan stamp stream before after) (ServesUntil plan stamp stream before after) result

@@ -1,9 +1,10 @@
 -- How far a run over a stream has come.
-use Rattle.std.specs.Prelude.{ℕ, ◌*◌, ◌≤◌, List, [], ◌++◌, length, Option}
+use Rattle.std.specs.Prelude.{ℕ, ◌*◌, ◌≤◌, List, [], ◌∷◌, ◌++◌, length, Option}
 use Rattle.std.specs.Io.KnownBytes.{Consumes}
 use Rattle.std.specs.Option.{IfSome}
 use Rattle.gw_mllp.specs.Stream.{Has, Overlong, Stands, Tail, Within}
 use Rattle.gw_stream.specs.declared.block_reader.BlockReader.{BlockReader}
+use Rattle.gw_stream.specs.declared.source.Source as source
 use Rattle.gw_stream.specs.declared.fault.RunFault.{RunFault}
 use Rattle.gw_stream.specs.declared.fault.RunFault.TheVariants.{Memory, Read, Frame, Turns}
 use Rattle.gw_stream.specs.Reading.{ReadTimes, ReadUpTo}
@@ -18,8 +19,8 @@ abbrev pub at : Option (List ℕ) → ℕ → BlockReader → Place
 at left reads blocks = record { left = left; reads = reads; blocks = blocks }
 
 -- a source and what reads its blocks, by what the source says of itself
-abbrev pub place : {S : Type 0} → (S → Option (List ℕ)) → (S → ℕ) → S → BlockReader → Place
-place remaining reads source blocks = at (remaining source) (reads source) blocks
+abbrev pub place : {S : Type 0} → source.Ghosts S → S → BlockReader → Place
+place by reader blocks = at (by.remaining reader) (by.reads reader) blocks
 
 -- From a source that had this left and was read this often, a run has come here, and these blocks were given on the way.
 pub record Walks (left : Option (List ℕ)) (reads : ℕ) (here : Place) (given : List (List ℕ)) : Type 0 where
@@ -34,6 +35,10 @@ pub record Walks (left : Option (List ℕ)) (reads : ℕ) (here : Place) (given 
 -- a run that had come here has come there, and these blocks were given on the way
 abbrev pub Goes : Place → Place → List (List ℕ) → Type 0
 Goes here there more = (left : Option (List ℕ)) (reads : ℕ) (given : List (List ℕ)) → Walks left reads here given → Walks left reads there (given ++ more)
+
+-- wherever its source is, what reads the blocks gave this one
+abbrev pub Gives : BlockReader → BlockReader → List ℕ → Type 0
+Gives old new content = (left : Option (List ℕ)) (reads : ℕ) → Goes (at left reads old) (at left reads new) (content ∷ [])
 
 -- a run that had come here has all blocks of its stream, and the stream ends so
 abbrev pub EndsAt : Place → Tail → Type 0

@@ -1,7 +1,7 @@
 //! The blocks of a stream, read one by one.
-ghost use Rattle.std.specs.Prelude.{◌≡◌, ◌≢◌, ◌↔◌, ◌<◌, ◌+◌, ◌∷◌, [], ℕ, List, Option, OnOk, OnErr, IfErr, IfSome, IfNone, IsTrue, IsErrOf, false, true, Ok};
+ghost use Rattle.std.specs.Prelude.{◌≡◌, ◌≢◌, ◌↔◌, ◌<◌, ◌+◌, [], ℕ, List, Option, OnOk, OnErr, IfErr, IfSome, IfNone, IsTrue, IsErrOf, false, true, Ok};
 ghost use Rattle.gw_mllp.specs.Stream.{Between, IsFed, Within, Overlong};
-ghost use Rattle.gw_stream.specs.Walked.{EndsAt, Goes, Stops, Walks, WithinReads, at, place};
+ghost use Rattle.gw_stream.specs.Walked.{EndsAt, Gives, Goes, Stops, Walks, WithinReads, at, place};
 
 use crate::fault::RunFault;
 use crate::source::Source;
@@ -60,8 +60,7 @@ impl BlockReader {
 
     /// The next block of what was read. It takes no memory.
     pub(crate) fn ready(&mut self) -> Option<Vec<u8>>
-        ensures goes { IfSome result (λ content. (left : Option (List ℕ)) (reads : ℕ)
-            → Goes (at left reads self.old) (at left reads self.new) (content.items ∷ [])) }
+        ensures goes { IfSome result (λ content. Gives self.old self.new content.items) }
         ensures none { IfNone result ((self.old.decoder.waiting ≡ []) × (self.new ≡ self.old)) }
         ensures turns { self.new.turns ≡ self.old.turns }
     {
@@ -74,12 +73,12 @@ impl BlockReader {
     pub(crate) fn fill<R: Source>(&mut self, reader: &mut R) -> Result<bool, RunFault>
         requires works { R.has_failed reader.old ≡ false }
         requires none { self.old.decoder.waiting ≡ [] }
-        ensures goes { result ≡ Ok true → Goes (place R.remaining R.reads reader.old self.old) (place R.remaining R.reads reader.new self.new) [] }
+        ensures goes { result ≡ Ok true → Goes (place R.Source reader.old self.old) (place R.Source reader.new self.new) [] }
         ensures early { result ≡ Ok true → self.old.turns < 1000000 }
         ensures turn { result ≡ Ok true → self.new.turns ≡ self.old.turns + 1 }
-        ensures end { result ≡ Ok false → EndsAt (place R.remaining R.reads reader.old self.old) Between }
-        ensures stops { IfErr result (Stops (place R.remaining R.reads reader.old self.old) (place R.remaining R.reads reader.new self.new)) }
-        ensures most { WithinReads (place R.remaining R.reads reader.old self.old) (R.reads reader.new) }
+        ensures end { result ≡ Ok false → EndsAt (place R.Source reader.old self.old) Between }
+        ensures stops { IfErr result (Stops (place R.Source reader.old self.old) (place R.Source reader.new self.new)) }
+        ensures most { WithinReads (place R.Source reader.old self.old) (R.reads reader.new) }
         ensures read { IsErrOf result RunFault.Read ↔ IsTrue (R.has_failed reader.new) }
     {
         if self.decoder.at_end() == Err(FrameFault::TooLong) {

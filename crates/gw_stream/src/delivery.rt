@@ -1,11 +1,9 @@
 //! What receivers are sent of a message.
-ghost use Rattle.std.specs.Prelude.{◌≡◌, IfOk, Ok, length};
+ghost use Rattle.std.specs.Prelude.{IfOk, length};
 ghost use Rattle.std.specs.Arc.{arc_value};
 ghost use Rattle.gw_plan.specs.Admitted.{IsOf};
 ghost use Rattle.gw_plan.specs.Held.{plan_value};
-ghost use Rattle.gw_plan.specs.Routing.{routed};
-ghost use Rattle.gw_plan.specs.Shapes.{RouteValue};
-ghost use Rattle.gw_stream.specs.own.Prepared.{ArePrepared, AreWithin, IsPrepared};
+ghost use Rattle.gw_stream.specs.own.Prepared.{ArePrepared, AreWithin, PreparesFor};
 
 use crate::frame::block_of;
 use gw_plan::{Conforming, translate_for};
@@ -27,8 +25,7 @@ fn prepare_delivery(
     receiver: usize,
 ) -> Result<Delivery, AllocError>
     requires { IsOf (arc_value conforming.now) receiver }
-    ensures { (route : RouteValue) → routed (plan_value (arc_value conforming.now).plan) (arc_value conforming.now).tree.message ≡ Ok route
-        → IfOk result (IsPrepared (arc_value conforming.now).tree.message route receiver) }
+    ensures { PreparesFor (arc_value conforming.now) receiver result }
 {
     let translated = translate_for(alloc, conforming, receiver)?;
     let block = block_of(alloc, translated.message())?;

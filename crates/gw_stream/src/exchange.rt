@@ -1,9 +1,9 @@
 //! A content, read, judged and answered.
-ghost use Rattle.std.specs.Prelude.{◌≡◌, ◌∷◌, [], ℕ, List, IfOk, OnErr};
+ghost use Rattle.std.specs.Prelude.{◌∷◌, [], ℕ, List, IfOk, OnErr};
 ghost use Rattle.gw_mllp.specs.Stream.{HasNoEnd};
-ghost use Rattle.gw_stream.specs.Answers.{IsReadAs, IsSettled, header_for};
+ghost use Rattle.gw_stream.specs.Answers.{IsReadAs, IsSettled};
 ghost use Rattle.gw_stream.specs.Exchanges.{Begins};
-ghost use Rattle.gw_stream.specs.own.Gathered.{answered};
+ghost use Rattle.gw_stream.specs.own.Gathered.{SettlesRead, answered};
 
 use crate::judge::Judge;
 use gw_ack::{Ack, Header, answer};
@@ -26,8 +26,7 @@ fn settle<J: Judge>(
     header: &Header,
     what: Option<Message>,
 ) -> Result<Answer, AllocError>
-    ensures answer { (content : List ℕ) → IsReadAs content what → header.now ≡ header_for what
-        → IfOk result (λ a. IsSettled (J.settles judge.old judge.new number) content (answered a)) }
+    ensures answer { SettlesRead (J.settles judge.old judge.new number) what header.now result }
     ensures lawful { IfOk result (λ a. HasNoEnd a.content.items) }
     ensures begun { (content : List ℕ) → IsReadAs content what
         → OnErr result (Begins J.settles J.breaks number judge.old (content ∷ []) judge.new) }

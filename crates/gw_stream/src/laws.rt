@@ -1,8 +1,8 @@
 //! What holds of the definitions.
-ghost use Rattle.std.specs.Prelude.{◌≡◌, List, ℕ};
+ghost use Rattle.std.specs.Prelude.{List, ℕ};
 ghost use Rattle.gw_profile.specs.Shapes.{ProfileValue};
 ghost use Rattle.gw_profile.specs.WellFormed.{WellFormed};
-ghost use Rattle.gw_stream.specs.Answers.{Answer, IsAnswer, Validated};
+ghost use Rattle.gw_stream.specs.Answers.{HasOneAnswer, Validated};
 ghost use Rattle.gw_stream.specs.Posts.{IsBeginning, Post, Whom, bytes_to};
 ghost use Rattle.gw_stream.specs.Sent.{BeginsWith};
 
@@ -11,8 +11,7 @@ use gw_validate::laws::{conforming_breaks_nothing, one_least};
 
 /// By a profile a content has one answer of each number and stamp at most.
 pub fn one_answer()
-    ensures { (p : ProfileValue) (stamp content : List ℕ) (number : ℕ) (a b : Answer) → WellFormed p → IsAnswer (Validated p) stamp number content a
-        → IsAnswer (Validated p) stamp number content b → a ≡ b }
+    ensures { (p : ProfileValue) (stamp content : List ℕ) (number : ℕ) → WellFormed p → HasOneAnswer (Validated p) stamp number content }
 {
     reads_once();
     one_least();

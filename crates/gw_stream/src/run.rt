@@ -1,9 +1,8 @@
 //! A stream, settled block by block by a judge.
 ghost use Rattle.std.specs.Prelude.{◌≡◌, ◌↔◌, ◌+◌, ◌<◌, ◌^◌, ◌∷◌, [], OnOk, OnErr, IsTrue, IsErrOf, false};
 ghost use Rattle.gw_stream.specs.Counted.{IsTotal};
-ghost use Rattle.gw_stream.specs.Exchanges.{AllExchanged, Begins, SomeExchanged};
+ghost use Rattle.gw_stream.specs.Exchanges.{Begins, EndsExchanged};
 ghost use Rattle.gw_stream.specs.Reading.{ReadUpTo, ReadsTooOften};
-ghost use Rattle.gw_stream.specs.Streams.{Ends};
 ghost use Rattle.gw_stream.specs.own.Gathered.{Gathers, SentAtLast};
 
 use crate::block_reader::BlockReader;
@@ -64,10 +63,7 @@ pub fn answer_blocks<J: Judge, R: Source, W: Sink>(
 ) -> Result<Counts, RunFault>
     requires reads { R.has_failed reader.old ≡ false }
     requires writes { W.has_failed writer.old ≡ false }
-    ensures ends { Ends
-        (AllExchanged J.settles (R.remaining reader.old) judge.old judge.new (W.contents writer.old) (W.contents writer.new))
-        (λ fault. SomeExchanged J.settles J.breaks (R.remaining reader.old) judge.old judge.new (W.contents writer.old) (W.contents writer.new))
-        result }
+    ensures ends { EndsExchanged J.settles J.breaks (R.remaining reader.old) judge.old judge.new (W.contents writer.old) (W.contents writer.new) result }
     ensures read { IsErrOf result RunFault.Read ↔ IsTrue (R.has_failed reader.new) }
     ensures write { IsErrOf result RunFault.Write ↔ IsTrue (W.has_failed writer.new) }
     ensures turns { IsErrOf result RunFault.Turns → ReadsTooOften (R.remaining reader.old) (R.reads reader.old) (R.reads reader.new) }

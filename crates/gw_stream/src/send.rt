@@ -1,9 +1,9 @@
 //! Bytes to sinks.
-ghost use Rattle.std.specs.Prelude.{◌≡◌, ◌↔◌, ◌<◌, ◌∷◌, [], IsTrue, IsErr, OnOk, OnErr, false, length, map};
+ghost use Rattle.std.specs.Prelude.{◌≡◌, ◌↔◌, ◌<◌, IsTrue, IsErr, OnOk, OnErr, false, length, map};
 ghost use Rattle.std.specs.List.{list_any};
 ghost use Rattle.std.specs.Io.KnownBytes.{Appends};
 ghost use Rattle.gw_stream.specs.own.Prepared.{AreWithin, post, posts};
-ghost use Rattle.gw_stream.specs.Posts.{Sends, SendsOut, SendsSome, SendsSomeOut, known, receiver, some_failed};
+ghost use Rattle.gw_stream.specs.Posts.{Changes, Sends, SendsOut, SendsSome, SendsSomeOut, one_for, some_failed};
 ghost use Rattle.gw_stream.specs.Sent.{SendsPart};
 
 use crate::delivery::Delivery;
@@ -34,10 +34,8 @@ fn send_to<W: Sink>(outs: &mut Vec<W>, number: usize, bytes: &[u8]) -> Result<()
     requires within { number < length outs.old.items }
     requires works { list_any W.has_failed outs.old.items ≡ false }
     ensures count { length outs.new.items ≡ length outs.old.items }
-    ensures ok { OnOk result (SendsOut (record { whom = receiver number; bytes = bytes.now } ∷ [])
-        (map W.contents outs.old.items) (map W.contents outs.new.items)) }
-    ensures part { OnErr result (SendsSomeOut (record { whom = receiver number; bytes = bytes.now } ∷ [])
-        (map W.contents outs.old.items) (map W.contents outs.new.items)) }
+    ensures ok { OnOk result (SendsOut (one_for number bytes.now) (map W.contents outs.old.items) (map W.contents outs.new.items)) }
+    ensures part { OnErr result (SendsSomeOut (one_for number bytes.now) (map W.contents outs.old.items) (map W.contents outs.new.items)) }
     ensures failed { IsTrue (list_any W.has_failed outs.new.items) ↔ IsErr result }
 {
     send_all(&mut outs[number], bytes)
@@ -70,10 +68,8 @@ pub(crate) fn send_outcome<A: Sink, W: Sink>(
     requires outs { list_any W.has_failed outs.old.items ≡ false }
     requires within { AreWithin (length outs.old.items) deliveries.now }
     ensures count { length outs.new.items ≡ length outs.old.items }
-    ensures ok { OnOk result (Sends (posts deliveries.now block.now)
-        (known A.contents W.contents answers.old outs.old.items) (known A.contents W.contents answers.new outs.new.items)) }
-    ensures part { OnErr result (SendsSome (posts deliveries.now block.now)
-        (known A.contents W.contents answers.old outs.old.items) (known A.contents W.contents answers.new outs.new.items)) }
+    ensures ok { OnOk result (Changes A.Sink W.Sink answers.old answers.new outs.old outs.new (Sends (posts deliveries.now block.now))) }
+    ensures part { OnErr result (Changes A.Sink W.Sink answers.old answers.new outs.old outs.new (SendsSome (posts deliveries.now block.now))) }
     ensures failed { IsTrue (some_failed A.has_failed W.has_failed answers.new outs.new.items) ↔ IsErr result }
 {
     send_deliveries(outs, deliveries)?;

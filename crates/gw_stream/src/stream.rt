@@ -1,16 +1,15 @@
 //! A stream, answered or served block by block.
-ghost use Rattle.std.specs.Prelude.{◌≡◌, ◌↔◌, ◌+◌, ◌<◌, ◌^◌, length, OnOk, IfErr, IsTrue, IsErrOf, false};
+ghost use Rattle.std.specs.Prelude.{◌≡◌, ◌↔◌, ◌<◌, ◌^◌, length, OnOk, IfErr, IsTrue, IsErrOf, false};
 ghost use Rattle.std.specs.Arc.{arc_value};
 ghost use Rattle.std.specs.List.{All, list_any};
 ghost use Rattle.gw_plan.specs.Held.{plan_value};
 ghost use Rattle.gw_stream.specs.Answers.{ValidatedBy};
-ghost use Rattle.gw_stream.specs.own.Prepared.{ServesNot, ServesOne};
+ghost use Rattle.gw_stream.specs.own.Prepared.{ServesBy, ServesNotBy};
 ghost use Rattle.gw_stream.specs.Counted.{IsTotal};
-ghost use Rattle.gw_stream.specs.Exchanges.{AnswersAll, AnswersPart};
-ghost use Rattle.gw_stream.specs.Posts.{known, some_failed};
+ghost use Rattle.gw_stream.specs.Exchanges.{EndsAnswered};
+ghost use Rattle.gw_stream.specs.Posts.{Changes, some_failed};
 ghost use Rattle.gw_stream.specs.Reading.{ReadUpTo, ReadsTooOften};
-ghost use Rattle.gw_stream.specs.Served.{ServesAll, ServesUntil};
-ghost use Rattle.gw_stream.specs.Streams.{Ends};
+ghost use Rattle.gw_stream.specs.Served.{EndsServed};
 
 use crate::block_reader::BlockReader;
 use crate::by_profile::ByProfile;
@@ -43,10 +42,7 @@ pub fn answer_stream<R: Source, W: Sink>(
 ) -> Result<Counts, RunFault>
     requires reads { R.has_failed reader.old ≡ false }
     requires writes { W.has_failed writer.old ≡ false }
-    ensures ends { Ends
-        (AnswersAll (ValidatedBy profile) stamp (R.remaining reader.old) (W.contents writer.old) (W.contents writer.new))
-        (λ fault. AnswersPart (ValidatedBy profile) stamp (R.remaining reader.old) (W.contents writer.old) (W.contents writer.new))
-        result }
+    ensures ends { EndsAnswered (ValidatedBy profile) stamp (R.remaining reader.old) (W.contents writer.old) (W.contents writer.new) result }
     ensures read { IsErrOf result RunFault.Read ↔ IsTrue (R.has_failed reader.new) }
     ensures write { IsErrOf result RunFault.Write ↔ IsTrue (W.has_failed writer.new) }
     ensures turns { IsErrOf result RunFault.Turns → ReadsTooOften (R.remaining reader.old) (R.reads reader.old) (R.reads reader.new) }
@@ -74,10 +70,10 @@ fn serve_content<A: Sink, W: Sink>(
     ensures plan { OnOk result (judge.new.plan ≡ judge.old.plan) }
     ensures stamp { OnOk result (judge.new.stamp ≡ judge.old.stamp) }
     ensures count { length outs.new.items ≡ length outs.old.items }
-    ensures ok { OnOk result (ServesOne (plan_value (arc_value judge.old.plan)) judge.old.stamp content.items
-        (known A.contents W.contents answers.old outs.old.items) (known A.contents W.contents answers.new outs.new.items) counts.old counts.new) }
-    ensures err { IfErr result (ServesNot (plan_value (arc_value judge.old.plan)) judge.old.stamp (counts.old.answered + 1) content.items
-        (known A.contents W.contents answers.old outs.old.items) (known A.contents W.contents answers.new outs.new.items)) }
+    ensures ok { OnOk result (Changes A.Sink W.Sink answers.old answers.new outs.old outs.new
+        (ServesBy judge.old content.items counts.old counts.new)) }
+    ensures err { IfErr result (λ e. Changes A.Sink W.Sink answers.old answers.new outs.old outs.new
+        (ServesNotBy judge.old content.items counts.old e)) }
     ensures write { IsErrOf result RunFault.Write ↔ IsTrue (some_failed A.has_failed W.has_failed answers.new outs.new.items) }
 {
     let Ok(answer) = exchange(alloc, judge, counts.answered + 1, content) else {
@@ -116,12 +112,8 @@ pub fn serve_once<R: Source, A: Sink, W: Sink>(
     requires answers { A.has_failed answers.old ≡ false }
     requires outs { All (λ w. W.has_failed w ≡ false) outs.old.items }
     requires one_each { length outs.old.items ≡ length plan.receivers }
-    ensures ends { Ends
-        (ServesAll (plan_value plan) stamp (R.remaining reader.old)
-        (known A.contents W.contents answers.old outs.old.items) (known A.contents W.contents answers.new outs.new.items))
-        (ServesUntil (plan_value plan) stamp (R.remaining reader.old)
-        (known A.contents W.contents answers.old outs.old.items) (known A.contents W.contents answers.new outs.new.items))
-        result }
+    ensures ends { Changes A.Sink W.Sink answers.old answers.new outs.old outs.new
+        (EndsServed (plan_value plan) stamp (R.remaining reader.old) result) }
     ensures read { IsErrOf result RunFault.Read ↔ IsTrue (R.has_failed reader.new) }
     ensures write { IsErrOf result RunFault.Write ↔ IsTrue (some_failed A.has_failed W.has_failed answers.new outs.new.items) }
     ensures turns { IsErrOf result RunFault.Turns → ReadsTooOften (R.remaining reader.old) (R.reads reader.old) (R.reads reader.new) }

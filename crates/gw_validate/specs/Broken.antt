@@ -9,12 +9,20 @@ use Rattle.gw_validate.specs.declared.breach.Breach.{Breach}
 use Rattle.gw_validate.specs.Kinds.{number_of}
 use Rattle.gw_validate.specs.Breaches.{SegmentBreach, NotAfter}
 use Rattle.gw_validate.specs.Cuts.{Begins, IsShortest}
-use Rattle.gw_validate.specs.Conforming.{names, NamesFit, numbers, named}
-use Rattle.gw_validate.specs.Trees.{Tree, IsTree, assigned}
+use Rattle.gw_validate.specs.Conforming.{names, NamesFit, numbers, named, MeetsAt}
+use Rattle.gw_validate.specs.Trees.{Tree, IsTree, AllMeet, assigned}
 
 -- the tree of a message whose names fit
 abbrev pub IsTreeOf : ProfileValue → List SegmentValue → Tree → Type 0
 IsTreeOf p m t = IsTree (named m) t p.nodes (numbers p.nodes m)
+
+-- in that tree each segment meets the shape of its node
+abbrev pub AllMeetIn : ProfileValue → List SegmentValue → Tree → Type 0
+AllMeetIn p m t = AllMeet (MeetsAt p m) (assigned t p.nodes)
+
+-- the shortest completion of a message's names
+abbrev pub IsShortestOf : ProfileValue → List SegmentValue → List Name → Type 0
+IsShortestOf p m rest = IsShortest p.nodes (names p.nodes m) rest
 
 -- the segment of this number stands at a node of this shape
 abbrev pub Assigns : List (ℕ × List FieldValue) → ℕ → List FieldValue → Type 0

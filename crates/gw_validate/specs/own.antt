@@ -14,4 +14,5 @@ pub mod Lending
 pub mod Answers
 pub mod Walk
 pub mod Gathering
+pub mod Visiting
 pub mod Finding

@@ -1,12 +1,12 @@
 //! The tree of a list that fits.
-ghost use Rattle.std.specs.Prelude.{◌≡◌, ◌&&◌, ◌≤◌, ◌-◌, IfOk, map, take, drop};
+ghost use Rattle.std.specs.Prelude.{◌≡◌, ◌&&◌, ◌≤◌, IfOk, map};
 ghost use Rattle.std.specs.List.{AllByRecursion};
 ghost use Rattle.gw_validate.specs.own.Residual.{has_room};
 ghost use Rattle.std.specs.Str.{bytes_eq};
-ghost use Rattle.gw_validate.specs.own.Building.{Builds, BuildsGroups, BuildsSegments};
+ghost use Rattle.gw_validate.specs.own.Building.{BuildsSegmentsAt, BuildsGroupsAt, BuildsNodeAt, BuildsNodesAt};
 ghost use Rattle.gw_profile.specs.Shapes.{nothing};
 ghost use Rattle.gw_profile.specs.Seen.{forest, node_forest, segment_value};
-ghost use Rattle.gw_validate.specs.own.Occurring.{found_of, tree_from, tree_of, trees_of, AreOrdered, IsOrdered};
+ghost use Rattle.gw_validate.specs.own.Occurring.{found_of, tree_of, AreOrdered, IsOrdered};
 ghost use Rattle.gw_validate.specs.Trees.{IsTree};
 ghost use Rattle.gw_validate.specs.own.Tests.{can_begin, node_begins};
 ghost use Rattle.gw_validate.specs.Conforming.{named};
@@ -67,8 +67,7 @@ fn can_go_on(due: Card, children: &[Node], message: &Message, number: usize) -> 
 // The place behind a node's segments, which are listed from this place on.
 fn pass_segments(segment: &SegNode, message: &Message, listed: &[usize], at: usize) -> usize
     ensures on { at ≤ result }
-    ensures built { BuildsSegments (named message.now) (segment_value segment.now)
-        (drop at listed.now) (take (result - at) (drop at listed.now)) (drop result listed.now) }
+    ensures built { BuildsSegmentsAt (named message.now) (segment_value segment.now) listed.now at result }
 {
     let mut due = segment.card;
     let mut here = at;
@@ -92,8 +91,7 @@ fn build_groups(
     listed: &[usize],
     at: usize,
 ) -> Result<(Option<Occurrences>, usize), AllocError>
-    ensures built { IfOk result (λ b. BuildsGroups (named message.now) card.min card.max (forest children.now)
-        (drop at listed.now) (trees_of listed.now (forest children.now) (found_of b.0)) (drop b.1 listed.now)) }
+    ensures built { IfOk result (λ b. BuildsGroupsAt (named message.now) card (forest children.now) listed.now at b) }
     ensures ordered { IfOk result (λ b. AllByRecursion (IsOrdered (forest children.now)) (found_of b.0)) }
 {
     let mut found = None;
@@ -123,8 +121,7 @@ fn build_node(
     listed: &[usize],
     at: usize,
 ) -> Result<(Option<Occurrences>, usize), AllocError>
-    ensures built { IfOk result (λ b. Builds (named message.now) (node_forest node.now nothing)
-        (drop at listed.now) (tree_from listed.now (λ _. b.0) 0 (node_forest node.now nothing)) (drop b.1 listed.now)) }
+    ensures built { IfOk result (λ b. BuildsNodeAt (named message.now) (node_forest node.now nothing) listed.now at b) }
     ensures ordered { IfOk result (λ b. AreOrdered (λ _. b.0) 0 (node_forest node.now nothing)) }
 {
     match node {
@@ -145,8 +142,7 @@ fn build_nodes(
     listed: &[usize],
     at: usize,
 ) -> Result<(Found, usize), AllocError>
-    ensures built { IfOk result (λ b. Builds (named message.now) (forest nodes.now)
-        (drop at listed.now) (tree_of listed.now (forest nodes.now) b.0) (drop b.1 listed.now)) }
+    ensures built { IfOk result (λ b. BuildsNodesAt (named message.now) (forest nodes.now) listed.now at b) }
     ensures ordered { IfOk result (λ b. IsOrdered (forest nodes.now) b.0) }
 {
     let mut found = Found::none(alloc);

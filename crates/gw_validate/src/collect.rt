@@ -1,11 +1,9 @@
 //! Every breach of a message, in order.
-ghost use Rattle.std.specs.Prelude.{◌≡◌, ◌<◌, ◌+◌, ◌∷◌, [], ℕ, length, map, get_or, IfOk, OnOk};
+ghost use Rattle.std.specs.Prelude.{◌≡◌, ◌<◌, ◌+◌, ◌∷◌, [], length, map, IfOk, OnOk};
 ghost use Rattle.std.specs.List.{AllByRecursion};
 ghost use Rattle.gw_profile.specs.Seen.{field, profile_value};
-ghost use Rattle.gw_validate.specs.Broken.{sequence};
-ghost use Rattle.gw_validate.specs.Conforming.{named};
 ghost use Rattle.gw_validate.specs.Every.{AreBreaches};
-ghost use Rattle.gw_validate.specs.own.Finding.{Finds, breach_of, count_of, IsSmall};
+ghost use Rattle.gw_validate.specs.own.Finding.{Finds, breach_of, count_of, AreSequences, IsSmall};
 ghost use Rattle.gw_validate.specs.own.Least.{ShapeRises, BreachAt};
 ghost use Rattle.gw_validate.specs.own.Taking.{paired, shape_of};
 
@@ -76,8 +74,7 @@ fn next_of(counts: &BTreeMap<[u8; 3], usize>, name: [u8; 3]) -> usize
 // Which of the segments of its name each segment of a message is, from 1.
 fn sequences(alloc: Global, message: &Message) -> Result<Vec<usize>, AllocError>
     ensures count { IfOk result (λ all. length all.items ≡ length message.now) }
-    ensures each { IfOk result (λ all. (number : ℕ) → number < length message.now →
-        get_or all.items number 0 ≡ sequence message.now number (named message.now number)) }
+    ensures each { IfOk result (λ all. AreSequences message.now all.items) }
 {
     let mut all = Vec::with_capacity(alloc, message.segment_count())?;
     let mut counts: BTreeMap<[u8; 3], usize> = BTreeMap::new(alloc);

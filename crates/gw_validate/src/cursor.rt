@@ -1,11 +1,11 @@
 //! A walk over the texts of a segment, in order: what is looked for next stands at no earlier place.
-ghost use Rattle.std.specs.Prelude.{◌≡◌, ℕ, ◌<◌, ◌+◌, ◌∷◌, [], MatchOption, true, false};
+ghost use Rattle.std.specs.Prelude.{◌≡◌, ℕ, ◌<◌, ◌+◌, ◌∷◌, [], true, false};
 ghost use Rattle.std.specs.FinMap as texts;
 ghost use Rattle.std.specs.Ordering.{nat_cmp, is_lt};
 ghost use Rattle.std.specs.Cmp.Lexicographic.{slice_cmp};
 ghost use Rattle.gw_er7.specs.Message.{numbers, text_of};
 ghost use Rattle.gw_er7.specs.Presence.{FieldAt, RepAt, IsStart};
-ghost use Rattle.gw_validate.specs.own.Walk.{IsBefore, IsValueAt, IsNextRep, IsNoRep};
+ghost use Rattle.gw_validate.specs.own.Walk.{IsBefore, IsBeforeRep, IsBeforeFound, IsValueAt, IsNextFound};
 
 use gw_er7::{Place, Segment, Value};
 
@@ -70,7 +70,7 @@ fn first_behind<'a>(
     field: usize,
     rep: usize,
 ) -> (usize, Option<Value<'a>>)
-    requires { IsBefore (field ∷ (rep + 1) ∷ 0 ∷ 0 ∷ []) (texts.entries segment.now.at) near }
+    requires { IsBeforeRep segment.now.at field (rep + 1) near }
     ensures start { IsStart (field ∷ (rep + 1) ∷ 0 ∷ 0 ∷ []) (texts.entries segment.now.at) result.0 }
     ensures value { IsValueAt (texts.entries segment.now.at) result.0 result.1 }
 {
@@ -113,10 +113,9 @@ pub(crate) fn next_rep(
     field: usize,
     after: usize,
 ) -> Option<usize>
-    requires { IsBefore (field ∷ (after + 1) ∷ 0 ∷ 0 ∷ []) (texts.entries segment.now.at) near.old }
-    ensures next { MatchOption result (IsNoRep segment.now.at field after) (IsNextRep segment.now.at field after) }
-    ensures here { MatchOption result (IsBefore ((field + 1) ∷ 0 ∷ 0 ∷ 0 ∷ []) (texts.entries segment.now.at) near.new)
-        (λ rep. IsBefore (field ∷ rep ∷ 0 ∷ 0 ∷ []) (texts.entries segment.now.at) near.new) }
+    requires { IsBeforeRep segment.now.at field (after + 1) near.old }
+    ensures next { IsNextFound segment.now.at field after result }
+    ensures here { IsBeforeFound segment.now.at field result near.new }
 {
     // (its clause says what every segment keeps)
     let _count = segment.value_count();
@@ -134,7 +133,7 @@ pub(crate) fn next_rep(
 // The first text of a field or behind it, with its number. Those before the number `near` stand below the field.
 #[inline(always)]
 fn first_of<'a>(segment: &Segment<'a>, near: usize, field: usize) -> (usize, Option<Value<'a>>)
-    requires { IsBefore (field ∷ 1 ∷ 0 ∷ 0 ∷ []) (texts.entries segment.now.at) near }
+    requires { IsBeforeRep segment.now.at field 1 near }
     ensures start { IsStart (field ∷ 1 ∷ 0 ∷ 0 ∷ []) (texts.entries segment.now.at) result.0 }
     ensures value { IsValueAt (texts.entries segment.now.at) result.0 result.1 }
 {
@@ -153,11 +152,10 @@ fn first_of<'a>(segment: &Segment<'a>, near: usize, field: usize) -> (usize, Opt
 /// The first repetition of a field that is present. It is looked for from the number `near` on, which rises to its first text.
 #[inline(always)]
 pub(crate) fn first_rep(segment: &Segment<'_>, near: &mut usize, field: usize) -> Option<usize>
-    requires { IsBefore (field ∷ 1 ∷ 0 ∷ 0 ∷ []) (texts.entries segment.now.at) near.old }
-    ensures next { MatchOption result (IsNoRep segment.now.at field 0) (IsNextRep segment.now.at field 0) }
-    ensures here { MatchOption result (IsBefore ((field + 1) ∷ 0 ∷ 0 ∷ 0 ∷ []) (texts.entries segment.now.at) near.new)
-        (λ rep. IsBefore (field ∷ rep ∷ 0 ∷ 0 ∷ []) (texts.entries segment.now.at) near.new) }
-    ensures near { IsBefore (field ∷ 1 ∷ 0 ∷ 0 ∷ []) (texts.entries segment.now.at) near.new }
+    requires { IsBeforeRep segment.now.at field 1 near.old }
+    ensures next { IsNextFound segment.now.at field 0 result }
+    ensures here { IsBeforeFound segment.now.at field result near.new }
+    ensures near { IsBeforeRep segment.now.at field 1 near.new }
 {
     // (its clause says what every segment keeps)
     let _count = segment.value_count();
@@ -175,7 +173,7 @@ pub(crate) fn first_rep(segment: &Segment<'_>, near: &mut usize, field: usize) -
 /// Whether a field is present, by its first repetition that is.
 #[inline(always)]
 pub(crate) fn is_there(segment: &Segment<'_>, field: usize, first: Option<usize>) -> bool
-    requires { MatchOption first (IsNoRep segment.now.at field 0) (IsNextRep segment.now.at field 0) }
+    requires { IsNextFound segment.now.at field 0 first }
     ensures yes { result ≡ true → FieldAt segment.now.at field }
     ensures no { result ≡ false → FieldAt segment.now.at field → ⊥ }
     ensures some { (rep : ℕ) → RepAt segment.now.at field rep → 0 < rep }

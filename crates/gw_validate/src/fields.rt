@@ -1,15 +1,15 @@
 //! A walk over a segment beside its shape, which comes to each breach in order.
-ghost use Rattle.std.specs.Prelude.{◌≡◌, ℕ, ◌<◌, ◌≤◌, ◌+◌, ◌-◌, ◌∷◌, [], false, true, map, OnOk, IfSome, MatchOption};
+ghost use Rattle.std.specs.Prelude.{◌≡◌, ℕ, ◌<◌, ◌≤◌, ◌+◌, ◌-◌, ◌∷◌, [], false, true, map, OnOk, IfSome};
 ghost use Rattle.std.specs.List.{AllByRecursion};
 ghost use Rattle.std.specs.FinMap as texts;
 ghost use Rattle.gw_er7.specs.Presence.{FieldAt, RepAt, CompAt, IsStart};
-ghost use Rattle.gw_profile.specs.Seen.{sub, comp as comp_value, field as field_value, items_of, profile_value};
-ghost use Rattle.gw_validate.specs.Kinds.{number_of};
+ghost use Rattle.gw_profile.specs.Seen.{sub, comp as comp_value, field as field_value, items_of};
 ghost use Rattle.gw_validate.specs.Breaches.{is_required, is_forbidden, is_long, is_unlisted, is_null, Counted};
-ghost use Rattle.gw_validate.specs.Breaches.{SubBreach, CompBreach, RepBreach, RepsBreach, FieldBreach, SegmentBreach};
-ghost use Rattle.gw_validate.specs.own.Least.{SubsBreach, CompsBreach, is_full, CompRises, FieldRises, ShapeRises, Rises};
-ghost use Rattle.gw_validate.specs.own.Gathering.{Visits, Under, Only};
-ghost use Rattle.gw_validate.specs.own.Walk.{IsBefore, IsOnly, IsValueAt, IsNextRep, IsNoRep, IsCount, IsShort};
+ghost use Rattle.gw_validate.specs.own.Least.{is_full, CompRises, FieldRises, ShapeRises, Rises};
+ghost use Rattle.gw_validate.specs.own.Gathering.{Visits};
+ghost use Rattle.gw_validate.specs.own.Visiting.{AtPlace, AtSub, AtSubs, AtComp, AtComps, AtRep, AtReps, AtField, AtFields};
+ghost use Rattle.gw_validate.specs.own.Walk.{IsBefore, IsBeforeField, IsBeforeRep, IsBeforeComp, IsBeforeFound};
+ghost use Rattle.gw_validate.specs.own.Walk.{IsOnly, IsValueAt, IsNextFound, IsCount, IsShort};
 
 use crate::breach::Kind;
 use crate::cursor::{first_from, first_rep, is_there, next_rep, text_from};
@@ -94,8 +94,7 @@ fn visit_if<V: AtBreach>(
     place: Place,
     kind: Kind,
 ) -> Result<(), V::Stop>
-    ensures { Visits V.stopped (Only test (place.field ∷ place.rep ∷ place.comp ∷ place.sub ∷ number_of kind ∷ []))
-        (V.seen visitor.old) (V.seen visitor.new) result }
+    ensures { Visits V.stopped (AtPlace test place kind) (V.seen visitor.old) (V.seen visitor.new) result }
 {
     if test {
         return visitor.breach(Spot {
@@ -118,8 +117,7 @@ fn visit_leaf<V: AtBreach>(
     place: Place,
     visitor: &mut V,
 ) -> Result<(), V::Stop>
-    ensures { Visits V.stopped (Under (place.field ∷ place.rep ∷ place.comp ∷ place.sub ∷ [])
-        (SubBreach (profile_value profile.now) (sub shape.now) text.now)) (V.seen visitor.old) (V.seen visitor.new) result }
+    ensures { Visits V.stopped (AtSub profile.now place shape.now text.now) (V.seen visitor.old) (V.seen visitor.new) result }
 {
     if text.len() == 0 {
         return visit_if(visitor, is_required(shape.usage), place, Kind::MissingValue);
@@ -145,10 +143,8 @@ fn visit_leaves<V: AtBreach>(
 ) -> Result<(), V::Stop>
     requires rises { Rises (λ s. s.number) 0 (map sub subs.now) }
     requires near { IsBefore (comp.field ∷ comp.rep ∷ comp.comp ∷ 1 ∷ []) (texts.entries segment.now.at) near.old }
-    ensures all { Visits V.stopped (Under (comp.field ∷ comp.rep ∷ comp.comp ∷ [])
-        (SubsBreach (profile_value profile.now) segment.now.at comp.field comp.rep comp.comp (map sub subs.now)))
-        (V.seen visitor.old) (V.seen visitor.new) result }
-    ensures near { OnOk result (IsBefore (comp.field ∷ comp.rep ∷ (comp.comp + 1) ∷ 0 ∷ []) (texts.entries segment.now.at) near.new) }
+    ensures all { Visits V.stopped (AtSubs profile.now segment.now.at comp subs.now) (V.seen visitor.old) (V.seen visitor.new) result }
+    ensures near { OnOk result (IsBeforeComp segment.now.at comp.field comp.rep (comp.comp + 1) near.new) }
 {
     for sub in subs {
         let place = Place {
@@ -190,10 +186,8 @@ fn visit_texts<V: AtBreach>(
     requires there { CompAt segment.now.at comp.field comp.rep comp.comp }
     requires start { IsStart (comp.field ∷ comp.rep ∷ comp.comp ∷ 0 ∷ []) (texts.entries segment.now.at) near.old }
     requires value { IsValueAt (texts.entries segment.now.at) near.old found }
-    ensures all { Visits V.stopped (Under (comp.field ∷ comp.rep ∷ comp.comp ∷ [])
-        (SubsBreach (profile_value profile.now) segment.now.at comp.field comp.rep comp.comp (map sub subs.now)))
-        (V.seen visitor.old) (V.seen visitor.new) result }
-    ensures near { OnOk result (IsBefore (comp.field ∷ comp.rep ∷ (comp.comp + 1) ∷ 0 ∷ []) (texts.entries segment.now.at) near.new) }
+    ensures all { Visits V.stopped (AtSubs profile.now segment.now.at comp subs.now) (V.seen visitor.old) (V.seen visitor.new) result }
+    ensures near { OnOk result (IsBeforeComp segment.now.at comp.field comp.rep (comp.comp + 1) near.new) }
 {
     // (its clause says what every segment keeps)
     let _count = segment.value_count();
@@ -259,11 +253,9 @@ fn visit_comp<V: AtBreach>(
     visitor: &mut V,
 ) -> Result<(), V::Stop>
     requires rises { CompRises (comp_value shape.now) }
-    requires near { IsBefore (field ∷ rep ∷ shape.now.number ∷ 0 ∷ []) (texts.entries segment.now.at) near.old }
-    ensures all { Visits V.stopped (Under (field ∷ rep ∷ shape.now.number ∷ [])
-        (CompBreach (profile_value profile.now) segment.now.at field rep (comp_value shape.now)))
-        (V.seen visitor.old) (V.seen visitor.new) result }
-    ensures near { OnOk result (IsBefore (field ∷ rep ∷ (shape.now.number + 1) ∷ 0 ∷ []) (texts.entries segment.now.at) near.new) }
+    requires near { IsBeforeComp segment.now.at field rep shape.now.number near.old }
+    ensures all { Visits V.stopped (AtComp profile.now segment.now.at field rep shape.now) (V.seen visitor.old) (V.seen visitor.new) result }
+    ensures near { OnOk result (IsBeforeComp segment.now.at field rep (shape.now.number + 1) near.new) }
 {
     let place = Place {
         field,
@@ -292,11 +284,9 @@ fn visit_comps<V: AtBreach>(
 ) -> Result<(), V::Stop>
     requires rises { Rises (λ c. c.number) 0 (map comp_value comps.now) }
     requires each { AllByRecursion CompRises (map comp_value comps.now) }
-    requires near { IsBefore (field ∷ rep ∷ 0 ∷ 0 ∷ []) (texts.entries segment.now.at) near.old }
-    ensures all { Visits V.stopped (Under (field ∷ rep ∷ [])
-        (CompsBreach (profile_value profile.now) segment.now.at field rep (map comp_value comps.now)))
-        (V.seen visitor.old) (V.seen visitor.new) result }
-    ensures near { OnOk result (IsBefore (field ∷ (rep + 1) ∷ 0 ∷ 0 ∷ []) (texts.entries segment.now.at) near.new) }
+    requires near { IsBeforeRep segment.now.at field rep near.old }
+    ensures all { Visits V.stopped (AtComps profile.now segment.now.at field rep comps.now) (V.seen visitor.old) (V.seen visitor.new) result }
+    ensures near { OnOk result (IsBeforeRep segment.now.at field (rep + 1) near.new) }
 {
     for comp in comps {
         visit_comp(profile, segment, near, field, rep, comp, visitor)?;
@@ -337,11 +327,9 @@ fn visit_rep<V: AtBreach>(
 ) -> Result<(), V::Stop>
     requires rises { FieldRises (field_value shape.now) }
     requires before { Counted (RepAt segment.now.at shape.now.number) (rep - 1) before }
-    requires near { IsBefore (shape.now.number ∷ rep ∷ 0 ∷ 0 ∷ []) (texts.entries segment.now.at) near.old }
-    ensures all { Visits V.stopped (Under (shape.now.number ∷ rep ∷ [])
-        (RepBreach (profile_value profile.now) segment.now.at (field_value shape.now) rep))
-        (V.seen visitor.old) (V.seen visitor.new) result }
-    ensures near { OnOk result (IsBefore (shape.now.number ∷ (rep + 1) ∷ 0 ∷ 0 ∷ []) (texts.entries segment.now.at) near.new) }
+    requires near { IsBeforeRep segment.now.at shape.now.number rep near.old }
+    ensures all { Visits V.stopped (AtRep profile.now segment.now.at shape.now rep) (V.seen visitor.old) (V.seen visitor.new) result }
+    ensures near { OnOk result (IsBeforeRep segment.now.at shape.now.number (rep + 1) near.new) }
 {
     let field = shape.number as usize;
     let place = Place {
@@ -365,13 +353,10 @@ fn visit_reps<V: AtBreach>(
 ) -> Result<(), V::Stop>
     requires rises { FieldRises (field_value shape.now) }
     requires some { (rep : ℕ) → RepAt segment.now.at shape.now.number rep → 0 < rep }
-    requires next { MatchOption first (IsNoRep segment.now.at shape.now.number 0) (IsNextRep segment.now.at shape.now.number 0) }
-    requires here { MatchOption first (IsBefore ((shape.now.number + 1) ∷ 0 ∷ 0 ∷ 0 ∷ []) (texts.entries segment.now.at) near.old)
-        (λ rep. IsBefore (shape.now.number ∷ rep ∷ 0 ∷ 0 ∷ []) (texts.entries segment.now.at) near.old) }
-    ensures all { Visits V.stopped (Under (shape.now.number ∷ [])
-        (RepsBreach (profile_value profile.now) segment.now.at (field_value shape.now)))
-        (V.seen visitor.old) (V.seen visitor.new) result }
-    ensures near { OnOk result (IsBefore ((shape.now.number + 1) ∷ 0 ∷ 0 ∷ 0 ∷ []) (texts.entries segment.now.at) near.new) }
+    requires next { IsNextFound segment.now.at shape.now.number 0 first }
+    requires here { IsBeforeFound segment.now.at shape.now.number first near.old }
+    ensures all { Visits V.stopped (AtReps profile.now segment.now.at shape.now) (V.seen visitor.old) (V.seen visitor.new) result }
+    ensures near { OnOk result (IsBeforeField segment.now.at (shape.now.number + 1) near.new) }
 {
     let field = shape.number as usize;
     let mut before = 0;
@@ -388,7 +373,7 @@ fn visit_reps<V: AtBreach>(
 
 // How many repetitions of a field are present. They are looked for from the text of this number on.
 fn count_reps(segment: &Segment<'_>, near: usize, field: usize) -> usize
-    requires { IsBefore (field ∷ 1 ∷ 0 ∷ 0 ∷ []) (texts.entries segment.now.at) near }
+    requires { IsBeforeRep segment.now.at field 1 near }
     ensures { IsCount (RepAt segment.now.at field) result }
 {
     let mut at = near;
@@ -403,7 +388,7 @@ fn count_reps(segment: &Segment<'_>, near: usize, field: usize) -> usize
 
 // Whether fewer repetitions of a field are present than must be. Where one is enough, none is counted.
 fn comes_short(segment: &Segment<'_>, near: usize, shape: &FieldShape, present: bool) -> bool
-    requires near { IsBefore (shape.now.number ∷ 1 ∷ 0 ∷ 0 ∷ []) (texts.entries segment.now.at) near }
+    requires near { IsBeforeRep segment.now.at shape.now.number 1 near }
     requires present { present ≡ true → FieldAt segment.now.at shape.now.number }
     requires some { (rep : ℕ) → RepAt segment.now.at shape.now.number rep → 0 < rep }
     ensures yes { result ≡ true → IsShort (RepAt segment.now.at shape.now.number) shape.now.card.min }
@@ -439,11 +424,9 @@ fn visit_field<V: AtBreach>(
     visitor: &mut V,
 ) -> Result<(), V::Stop>
     requires rises { FieldRises (field_value shape.now) }
-    requires near { IsBefore (shape.now.number ∷ 1 ∷ 0 ∷ 0 ∷ []) (texts.entries segment.now.at) near.old }
-    ensures all { Visits V.stopped (Under (shape.now.number ∷ [])
-        (FieldBreach (profile_value profile.now) segment.now.at (field_value shape.now)))
-        (V.seen visitor.old) (V.seen visitor.new) result }
-    ensures near { OnOk result (IsBefore ((shape.now.number + 1) ∷ 0 ∷ 0 ∷ 0 ∷ []) (texts.entries segment.now.at) near.new) }
+    requires near { IsBeforeRep segment.now.at shape.now.number 1 near.old }
+    ensures all { Visits V.stopped (AtField profile.now segment.now.at shape.now) (V.seen visitor.old) (V.seen visitor.new) result }
+    ensures near { OnOk result (IsBeforeField segment.now.at (shape.now.number + 1) near.new) }
 {
     let place = Place {
         field: shape.number as usize,
@@ -474,8 +457,7 @@ pub(crate) fn visit_fields<V: AtBreach>(
     visitor: &mut V,
 ) -> Result<(), V::Stop>
     requires { ShapeRises (map field_value fields.now) }
-    ensures { Visits V.stopped (SegmentBreach (profile_value profile.now) (map field_value fields.now) segment.now.at)
-        (V.seen visitor.old) (V.seen visitor.new) result }
+    ensures { Visits V.stopped (AtFields profile.now segment.now.at fields.now) (V.seen visitor.old) (V.seen visitor.new) result }
 {
     let mut near = 0;
     for field in fields {

@@ -5,10 +5,9 @@ ghost use Rattle.gw_profile.specs.Shapes.{ProfileValue};
 ghost use Rattle.gw_profile.specs.Deterministic.{Name};
 ghost use Rattle.gw_profile.specs.WellFormed.{WellFormed};
 ghost use Rattle.gw_validate.specs.declared.breach.Breach.{Breach};
-ghost use Rattle.gw_validate.specs.Cuts.{IsShortest};
-ghost use Rattle.gw_validate.specs.Conforming.{names, numbers, named, MeetsAt, NamesFit, Conforms};
-ghost use Rattle.gw_validate.specs.Trees.{Tree, AllMeet, MeetingTree, assigned};
-ghost use Rattle.gw_validate.specs.Broken.{IsTreeOf, Breaks, IsLeast};
+ghost use Rattle.gw_validate.specs.Conforming.{numbers, named, MeetsAt, NamesFit, Conforms};
+ghost use Rattle.gw_validate.specs.Trees.{Tree, MeetingTree};
+ghost use Rattle.gw_validate.specs.Broken.{IsTreeOf, AllMeetIn, IsShortestOf, Breaks, IsLeast};
 
 /// A message has one tree of a profile at most.
 pub fn one_tree()
@@ -17,8 +16,7 @@ pub fn one_tree()
 
 /// The names of a message have one shortest completion at most, the whole of it.
 pub fn one_completion()
-    ensures { (p : ProfileValue) (m : List SegmentValue) (a b : List Name) → WellFormed p →
-        IsShortest p.nodes (names p.nodes m) a → IsShortest p.nodes (names p.nodes m) b → a ≡ b }
+    ensures { (p : ProfileValue) (m : List SegmentValue) (a b : List Name) → WellFormed p → IsShortestOf p m a → IsShortestOf p m b → a ≡ b }
 {}
 
 /// One breach of a message at most is the least.
@@ -38,8 +36,7 @@ pub fn conforms_by_tree()
 
 /// The one tree decides whether a message conforms.
 pub fn tree_decides()
-    ensures { (p : ProfileValue) (m : List SegmentValue) (t : Tree) → WellFormed p → IsTreeOf p m t →
-        (Conforms p m ↔ AllMeet (MeetsAt p m) (assigned t p.nodes)) }
+    ensures { (p : ProfileValue) (m : List SegmentValue) (t : Tree) → WellFormed p → IsTreeOf p m t → (Conforms p m ↔ AllMeetIn p m t) }
 {}
 
 /// The names of a message that has a tree fit.

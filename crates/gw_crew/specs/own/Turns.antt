@@ -1,10 +1,18 @@
 -- How workers and couriers come through a round.
 use Rattle.std.specs.Prelude.{◌≡◌, ℕ, Bool, true, false, List, [], ◌∷◌, ◌++◌, ⊤, IsTrue, Option, None, Some}
 use Rattle.std.specs.Arc.{arc_value}
+use Rattle.gw_ack.specs.declared.receipt.Ack.{Ack}
+use Rattle.gw_ack.specs.Headers.{control_of}
+use Rattle.gw_er7.specs.Message.{SegmentValue}
+use Rattle.gw_er7.specs.Written.{written}
 use Rattle.gw_gate.specs.Journal.{WasTaken, WasKept, WasOut}
 use Rattle.gw_gate.specs.Parts.{ConformingSeen, TranslatedSeen, delivers}
 use Rattle.gw_gate.specs.Replies.{ReplySeen, IsJob, IsIdle, IsKept, IsFull}
 use Rattle.gw_gate.specs.Seen.{Translated, conforming_seen, translated_seen}
+use Rattle.gw_mllp.specs.Stream.{Held, block}
+use Rattle.gw_stream.specs.declared.fault.RunFault.{RunFault}
+use Rattle.gw_stream.specs.declared.sink.Sink as sink
+use Rattle.gw_stream.specs.declared.source.Source as source
 use Rattle.gw_crew.specs.declared.workers.TakeReply as worker
 use Rattle.gw_crew.specs.Notes.{NoteSeen, WasFull, WasIdle, WasNothing, Added}
 use Rattle.gw_crew.specs.Works.{Ends}
@@ -103,3 +111,13 @@ Comes r None old new = ComesNone r old new
 
 abbrev pub out_seen : ℕ × Arc Translated Global → ℕ × TranslatedSeen
 out_seen out = (out.0, translated_seen (arc_value out.1))
+
+-- ---- a message's block on a line
+
+-- it was written, and acknowledged for the message's control id
+abbrev pub SendsMessage : {R W : Type 0} → source.Ghosts R → sink.Ghosts W → List SegmentValue → R → R → W → W → Held → Held → Ack → Type 0
+SendsMessage by to m = carries.SentBy by to (block (written m)) (control_of m)
+
+-- it was written in part or whole, and not acknowledged for that
+abbrev pub BreaksMessage : {R W : Type 0} → source.Ghosts R → sink.Ghosts W → ℕ → List SegmentValue → R → R → W → W → Held → RunFault → Type 0
+BreaksMessage by to n m = carries.UnsentBy by to n (block (written m)) (control_of m)

@@ -1,5 +1,5 @@
 -- Texts that are put into the last segment at all places of a kind: of a repetition, of a field.
-use Rattle.std.specs.Prelude.{◌≡◌, ℕ, ◌<◌, List, [], ◌∷◌, length, map, Some, None, unwrap_or}
+use Rattle.std.specs.Prelude.{◌≡◌, ℕ, ◌<◌, List, [], ◌∷◌, length, map, Option, Some, None, unwrap_or}
 use Rattle.std.specs.List.{AllByRecursion}
 use Rattle.std.specs.FinMap as texts
 use Rattle.gw_er7.specs.Message.{Texts, text_of, SegmentValue, first_field, IsEntry}
@@ -7,10 +7,14 @@ use Rattle.gw_er7.specs.Building.{IsBegun, with_last}
 use Rattle.gw_validate.specs.Fitting.{OccValue}
 use Rattle.gw_maplang.specs.Among.{Among, Distinct}
 use Rattle.gw_resolve.specs.Lawful.{LawfulMaking, places}
+use Rattle.gw_maplang.specs.declared.rule.Condition.{Condition}
 use Rattle.gw_maplang.specs.Shapes.{TableValue}
+use Rattle.gw_maplang.specs.Seen.{condition_some}
 use Rattle.gw_resolve.specs.declared.resolved.At as declared
-use Rattle.gw_resolve.specs.Seen.{at_leaf}
-use Rattle.gw_resolve.specs.Resolved.{At, leaf_at, Making, Rule}
+use Rattle.gw_resolve.specs.declared.resolved.Reference.{Reference}
+use Rattle.gw_resolve.specs.Seen.{reference, at_leaf}
+use Rattle.gw_resolve.specs.Resolved.{At, leaf_at, Making, repeat, Rule}
+use Rattle.gw_interp.specs.declared.making.Chosen.{Chosen}
 use Rattle.gw_interp.specs.declared.copying.ValuePath.{ValuePath}
 use Rattle.gw_interp.specs.declared.reading.Repetition.{Repetition}
 use Rattle.gw_interp.specs.own.Borrowed.{scope}
@@ -97,6 +101,14 @@ abbrev pub IsRepFilled : Walked → ℕ → ℕ → List At → List SegmentValu
 IsRepFilled w field rep leaves old new = AreMade (ℕ × ℕ) (rep_key field rep) (LeavesMean w leaves) old new
 
 -- ---- rules
+
+-- leaves for each repetition of this field, or for each that meets the condition
+abbrev pub repeated : List TableValue → Reference → Option Condition → List declared.At → Making
+repeated tables from chosen leaves = repeat (reference from) (condition_some chosen) (at_leaves tables leaves)
+
+-- the same of a field with its condition
+abbrev pub repeated_by : List TableValue → Chosen → List declared.At → Making
+repeated_by tables chosen leaves = repeated tables chosen.from.now (Some chosen.condition.now) leaves
 
 -- the texts that are meant may be in the field, and none is a fault
 pub record MayMakeBy (w : Walked) (making : Making) (field : ℕ) (old : List SegmentValue) : Type 0 where

@@ -9,7 +9,7 @@ use Rattle.gw_interp.specs.declared.reading.Reading.{Reading}
 use Rattle.gw_resolve.specs.Resolved.{FieldCondition, Leaf, const, copied, looked_up, dated, Alternative}
 use Rattle.gw_interp.specs.Meaning.{IsFirst, Walked, meets, SourceMeans, look_up, LeafMeans, FirstText}
 use Rattle.gw_interp.specs.Occurrences.{Occurrence}
-use Rattle.gw_interp.specs.own.Borrowed.{scope}
+use Rattle.gw_interp.specs.own.Borrowed.{scope, AreOf}
 
 -- no text where there is no segment
 abbrev pub texts_of : Option SegmentValue → Texts
@@ -70,6 +70,10 @@ NoFaultOf w all = AllByRecursion (λ (o : Alternative). IsFault w o.leaf → ⊥
 abbrev pub FirstGives : Walked → List Alternative → Option (List ℕ) → Type 0
 FirstGives w all None = NoFaultOf w all → ⊥
 FirstGives w all (Some text) = FirstText w all text
+
+-- the same of what a reading walks, whichever message that is of
+abbrev pub ReadingGives : Reading → List Alternative → Option (List ℕ) → Type 0
+ReadingGives r all found = (m : List SegmentValue) → AreOf m r.scope.now → FirstGives (walks m r) all found
 
 -- a condition holds where these occurrences are walked, or there is none
 abbrev pub is_met : List SegmentValue → List Occurrence → Option FieldCondition → Bool

@@ -1,5 +1,5 @@
 -- What the program holds of a plan so far, and what it means.
-use Rattle.std.specs.Prelude.{◌≡◌, ℕ, List, [], ◌++◌, map, Some, Result, Ok}
+use Rattle.std.specs.Prelude.{◌≡◌, ℕ, Bool, List, [], ◌++◌, map, Some, Result, Ok}
 use Rattle.std.specs.Option.{option_map, option_to_list, IfSome}
 use Rattle.gw_lines.specs.Reading.{Gives}
 use Rattle.gw_profile.specs.Shapes.{ProfileValue}
@@ -16,7 +16,7 @@ use Rattle.gw_plan.specs.Index.{Key, Indexes, said, with_key}
 use Rattle.gw_plan.specs.Seen.{bytes_all}
 use Rattle.gw_plan.specs.Kept.{key_of}
 use Rattle.gw_plan.specs.Draft as Spec
-use Rattle.gw_plan.specs.Draft.{adds_leg, adds_route, with_route, profile_named}
+use Rattle.gw_plan.specs.Draft.{adds_leg, adds_route, is_taken, with_route, profile_named}
 use Rattle.gw_plan.specs.declared.form.RouteLine.{RouteLine}
 
 -- ---- routes
@@ -31,6 +31,10 @@ IsListed l = Indexes l.index (map key_of (all_routes l))
 -- the key of a line that opens a route
 abbrev pub key_said : RouteLine → Key
 key_said route = record { code = route.code.now; event = route.event.now; senders = option_map said route.senders }
+
+-- a route above takes already what such a line's would
+abbrev pub is_line_taken : RouteLine → List RouteHeld → Bool
+is_line_taken route above = is_taken route.code.now route.event.now (option_map said route.senders) (map route_value above)
 
 -- the same with the key of a route more, which isn't there yet
 abbrev pub IsClaimed : RouteLine → RouteList → Type 0

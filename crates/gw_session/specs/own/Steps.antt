@@ -11,6 +11,7 @@ use Rattle.gw_gate.specs.Seen.{plan_seen}
 use Rattle.gw_gate.specs.Values.{conforming_at}
 use Rattle.gw_crew.specs.Notes.{NoteSeen, Looked, WasStale, WasFull, Added}
 use Rattle.gw_session.specs.declared.doors.CurrentPlan.{CurrentPlan}
+use Rattle.gw_session.specs.declared.doors.NumberedReply.{NumberedReply}
 use Rattle.gw_session.specs.declared.doors.ArriveReply.{ArriveReply}
 use Rattle.gw_session.specs.declared.doors.ArriveReply.TheVariants as replied
 use Rattle.gw_session.specs.declared.arrival.Judgement.{Judgement}
@@ -103,6 +104,10 @@ pub record Asks (m : List SegmentValue) (judgement : JudgementSeen) (notes : Lis
   pub judges : Judges m version plan judgement
 
 -- ---- how a message arrives
+
+-- these notes are those of a block that was settled so
+abbrev pub IsSettled : Option (List SegmentValue) → NumberedReply → List NoteSeen → Type 0
+IsSettled what settled notes = IsOutcome what notes settled.number settled.reply
 
 -- after three stale arrivals at most, it is settled with these notes
 abbrev pub Settles : List SegmentValue → ℕ → Reply → List NoteSeen → Type 0

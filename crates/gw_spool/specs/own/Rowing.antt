@@ -1,9 +1,11 @@
 -- What the steps of a row's call do to the files of its folder.
-use Rattle.std.specs.Prelude.{◌≡◌, ◌≢◌, ℕ, ◌≤◌, ◌<◌, false, List, [], Option, None, Some}
-use Rattle.gw_spool.specs.File.{Keeps, AllKeep}
+use Rattle.std.specs.Prelude.{◌≡◌, ◌≢◌, ◌⊎◌, ℕ, ◌≤◌, ◌<◌, false, List, [], ◌++◌, drop, Option, None, Some}
+use Rattle.gw_spool.specs.declared.device.Device as device
+use Rattle.gw_spool.specs.declared.folder.Folder as folder
+use Rattle.gw_spool.specs.File.{Keeps, KeepsEither, AllKeep}
 use Rattle.gw_spool.specs.State.{SpoolState}
 use Rattle.gw_spool.specs.Folder.{Slot, There, LeavesAt, may_leave_at, put}
-use Rattle.gw_spool.specs.Rows.{RowState, IsOpen, IsReading, IsRow, put_reading}
+use Rattle.gw_spool.specs.Rows.{RowState, IsOpen, IsReading, IsRow, HasFailed, disk, put_reading}
 
 -- each file but one keeps its records, whatever crash comes
 abbrev pub AllAt : {D : Type 0} → (D → List ℕ → Type 0) → ℕ → (ℕ → List (List ℕ)) → (ℕ → Slot D) → Type 0
@@ -55,3 +57,112 @@ pub record IsFilled {D : Type 0} (may_leave : D → List ℕ → Type 0) (slots 
   pub ordered : first ≤ last
   pub below : NoneBelow first each
   pub above : (n : ℕ) → last < n → each n ≡ []
+
+-- the records of each number, with these behind those of one, or without the first of one
+abbrev pub with_more : ℕ → List (List ℕ) → (ℕ → List (List ℕ)) → ℕ → List (List ℕ)
+with_more n more each = put n (each n ++ more) each
+
+abbrev pub without_first : ℕ → (ℕ → List (List ℕ)) → ℕ → List (List ℕ)
+without_first n each = put n (drop 1 (each n)) each
+
+-- ---- what a step does, by what a device and a folder say of themselves
+
+module _ {D : Type 0} (by : device.Ghosts D) where
+  -- a crash at any moment from old to new leaves of each file its records
+  abbrev pub LeavesEach : (ℕ → List (List ℕ)) → (ℕ → Slot D) → (ℕ → Slot D) → Type 0
+  LeavesEach each old new = (n : ℕ) → LeavesAt by.moment by.left_since (old n) (new n) (Keeps (each n))
+
+  -- the same of these records or those
+  abbrev pub LeavesThese : (ℕ → List (List ℕ)) → (ℕ → List (List ℕ)) → (ℕ → Slot D) → (ℕ → Slot D) → Type 0
+  LeavesThese each other old new = (n : ℕ) → LeavesAt by.moment by.left_since (old n) (new n) (KeepsEither (each n) (other n))
+
+  -- the same from a row to a row, over one folder
+  abbrev pub LeavesRow : RowState D → RowState D → (ℕ → Slot D) → (ℕ → List (List ℕ)) → (ℕ → List (List ℕ)) → Type 0
+  LeavesRow row row' slots each other = LeavesThese each other (disk row slots) (disk row' slots)
+
+  -- this holds of the records of each number, over whatever folder
+  abbrev pub ForRow : RowState D → ((ℕ → Slot D) → (ℕ → List (List ℕ)) → List (List ℕ) → Type 0) → Type 0
+  ForRow row P = (slots : ℕ → Slot D) (each : ℕ → List (List ℕ)) (appended : List (List ℕ)) → IsRow by.may_leave row slots each appended
+      → P slots each appended
+
+  -- the same where the last file alone is open
+  abbrev pub ForLast : RowState D → ((ℕ → Slot D) → (ℕ → List (List ℕ)) → List (List ℕ) → Type 0) → Type 0
+  ForLast row P = (slots : ℕ → Slot D) (each : ℕ → List (List ℕ)) (appended : List (List ℕ)) → IsRow by.may_leave row slots each appended
+      → row.reading ≡ None → P slots each appended
+
+  module _ {F : Type 0} (at : folder.Ghosts F D) where
+    -- this holds of the records that the file of this number keeps, whatever crash comes, where it is known what lies in the folder
+    abbrev pub ForRecords : F → ℕ → (List (List ℕ) → Type 0) → Type 0
+    ForRecords old number P = at.known old → (records : List (List ℕ)) → AllKeep records (may_leave_at by.may_leave (at.files old number)) → P records
+
+    -- a crash at any moment from the folder on leaves these records at this number
+    abbrev pub LeavesSegment : F → ℕ → Slot D → Type 0
+    LeavesSegment old number new = ForRecords old number (λ records. LeavesAt by.moment by.left_since (at.files old number) new (Keeps records))
+
+    -- a crash at any moment from the folder to these files leaves of each file but one its records; that one hasn't this number
+    abbrev pub GoesAt : F → ℕ → (ℕ → Slot D) → Type 0
+    GoesAt old number new = at.known old → (skip : ℕ) (each : ℕ → List (List ℕ)) → AllAt by.may_leave skip each (at.files old) → number ≢ skip
+        → Goes by.moment by.left_since skip each (at.files old) new
+
+    -- the same, where that one isn't below the last
+    abbrev pub GoesBelow : F → ℕ → (ℕ → Slot D) → Type 0
+    GoesBelow old last new = at.known old → (skip : ℕ) (each : ℕ → List (List ℕ)) → last ≤ skip → AllAt by.may_leave skip each (at.files old)
+        → Goes by.moment by.left_since skip each (at.files old) new
+
+    -- this holds of the records of the numbers from the first to the last, where those below the first have none
+    abbrev pub ForSegments : F → ℕ → ℕ → (ℕ → (ℕ → List (List ℕ)) → Type 0) → Type 0
+    ForSegments old first last P = at.known old → (skip : ℕ) (each : ℕ → List (List ℕ)) → last ≤ skip → AllAt by.may_leave skip each (at.files old)
+        → NoneBelow first each → first ≤ last → P skip each
+
+    -- the first of them that has a record was found
+    abbrev pub Finds : F → F → ℕ → ℕ → ℕ × Option (SpoolState D) → Type 0
+    Finds old new first last found = ForSegments old first last
+        (λ skip each. IsFound by.moment by.left_since by.may_leave skip last each (at.files old) (at.files new) found.0 found.1)
+
+    -- this holds of the records of each file of the folder
+    abbrev pub ForFilled : F → ℕ → ℕ → ((ℕ → List (List ℕ)) → Type 0) → Type 0
+    ForFilled old first last P = at.known old → (each : ℕ → List (List ℕ)) → IsFilled by.may_leave (at.files old) first last each → P each
+
+    -- a crash at any moment from the folder to these files leaves them
+    abbrev pub LeavesFilled : F → ℕ → ℕ → (ℕ → Slot D) → Type 0
+    LeavesFilled old first last new = ForFilled old first last (λ each. LeavesEach each (at.files old) new)
+
+    -- this holds of the records of each number, where the last file has some and all are synced
+    abbrev pub ForUsed : RowState D → F → ((ℕ → List (List ℕ)) → Type 0) → Type 0
+    ForUsed row old P = at.known old → (each : ℕ → List (List ℕ)) → IsRow by.may_leave row (at.files old) each [] → each row.last ≢ [] → P each
+
+    -- a crash at any moment leaves them
+    abbrev pub LeavesUsed : RowState D → RowState D → F → F → Type 0
+    LeavesUsed row row' old new = ForUsed row old (λ each. LeavesEach each (disk row (at.files old)) (disk row' (at.files new)))
+
+    -- this holds of the records of each number, where the first file has none any more
+    abbrev pub ForPassing : RowState D → SpoolState D → F → ((ℕ → List (List ℕ)) → List (List ℕ) → Type 0) → Type 0
+    ForPassing row s old P = at.known old → (each : ℕ → List (List ℕ)) (appended : List (List ℕ)) → IsPassing by.may_leave row s (at.files old) each appended
+        → P each appended
+
+    -- the row has them, over the new folder
+    abbrev pub Passes : RowState D → RowState D → SpoolState D → F → F → Type 0
+    Passes row row' s old new = ForPassing row s old (λ each appended. IsRow by.may_leave row' (at.files new) each appended)
+
+    -- a crash at any moment leaves them
+    abbrev pub LeavesPassing : RowState D → RowState D → SpoolState D → F → F → Type 0
+    LeavesPassing row row' s old new = ForPassing row s old (λ each appended. LeavesEach each (disk (with_reading row s) (at.files old)) (disk row' (at.files new)))
+
+    -- this holds of the records of each number of the row with this spool over its first file
+    abbrev pub ForReading : RowState D → SpoolState D → F → ((ℕ → List (List ℕ)) → List (List ℕ) → Type 0) → Type 0
+    ForReading row s old P = at.known old → (each : ℕ → List (List ℕ)) (appended : List (List ℕ))
+        → IsRow by.may_leave (with_reading row s) (at.files old) each appended → P each appended
+
+    -- the row has them without the first of the first file
+    abbrev pub DropsFirst : RowState D → RowState D → SpoolState D → F → F → Type 0
+    DropsFirst row row' s old new = ForReading row s old (λ each appended. IsRow by.may_leave row' (at.files new) (without_first row.first each) appended)
+
+    -- a crash at any moment leaves them with it or without
+    abbrev pub LeavesFirst : RowState D → RowState D → SpoolState D → F → F → Type 0
+    LeavesFirst row row' s old new = ForReading row s old
+        (λ each appended. LeavesThese each (without_first row.first each) (disk (with_reading row s) (at.files old)) (disk row' (at.files new)))
+
+    -- the row has them, or a file of it has failed
+    abbrev pub KeepsFirst : RowState D → RowState D → SpoolState D → F → F → Type 0
+    KeepsFirst row row' s old new = ForReading row s old
+        (λ each appended. StillWaits by.may_leave row' (at.files new) each appended row.waiting ⊎ HasFailed row')

@@ -4,7 +4,8 @@ use Rattle.std.specs.Int.{w32, to_be_bytes}
 use Rattle.std.specs.declared.alloc.Global.{Global}
 use Rattle.gw_spool.specs.declared.fault.SpoolFault.{SpoolFault}
 use Rattle.gw_spool.specs.declared.fault.SpoolFault.TheVariants as fault
-use Rattle.gw_spool.specs.Device.{Only}
+use Rattle.gw_spool.specs.declared.device.Device as device
+use Rattle.gw_spool.specs.Device.{Only, LeavesOnly}
 use Rattle.gw_spool.specs.File.{Entry, Record, Acknowledgment, item, body, blocks, AreShort, Has, IsDamagedAt, after_all}
 
 -- open blocks, and then a closed gate
@@ -27,6 +28,22 @@ pub record Spells (bytes : List ℕ) (entries : List Entry) : Type 0 where
 -- the file has these entries or those
 abbrev pub HasEither : List Entry → List Entry → List ℕ → Type 0
 HasEither these those c = Has these c ⊎ Has those c
+
+module _ {D : Type 0} (by : device.Ghosts D) where
+  -- behind the entries that end here, those that the bytes spell were added: they end at the next place
+  abbrev pub Adds : D → D → ℕ → List ℕ → ℕ → Type 0
+  Adds old new end bytes next = (these more : List Entry) → IsAtRest by.seen by.may_leave old end these → Spells bytes more
+      → IsAtRest by.seen by.may_leave new next (these ++ more)
+
+  -- a crash at any moment since then leaves the entries that ended here, with those that the bytes spell or without
+  abbrev pub LeavesAdded : D → D → ℕ → List ℕ → Type 0
+  LeavesAdded old new end bytes = (these more : List Entry) → IsAtRest by.seen by.may_leave old end these → Spells bytes more
+      → LeavesOnly by.moment by.left_since old new (HasEither these (these ++ more))
+
+  -- a crash at any moment since then leaves the entries that were there, or none
+  abbrev pub LeavesCleared : D → D → Type 0
+  LeavesCleared old new = (end : ℕ) (these : List Entry) → IsAtRest by.seen by.may_leave old end these
+      → LeavesOnly by.moment by.left_since old new (HasEither these [])
 
 -- an entry is this record, or none: an acknowledgment
 abbrev pub entry_of : Option (List ℕ) → Entry

@@ -1,6 +1,7 @@
 -- How a run that gathers its answers comes on.
-use Rattle.std.specs.Prelude.{◌≡◌, ℕ, ◌+◌, Bool, true, false, List, ◌++◌, length, map, Option}
+use Rattle.std.specs.Prelude.{◌≡◌, ℕ, ◌+◌, Bool, true, false, List, ◌++◌, length, map, Option, Result, IfOk}
 use Rattle.std.specs.Io.KnownBytes.{Appends}
+use Rattle.gw_ack.specs.Headers.{HeaderValue}
 use Rattle.gw_mllp.specs.Stream.{block}
 use Rattle.gw_stream.specs.declared.by_profile.ByProfile.{ByProfile}
 use Rattle.gw_stream.specs.declared.counts.Counts.{Counts}
@@ -8,7 +9,7 @@ use Rattle.gw_stream.specs.declared.exchange.Answer as program
 use Rattle.gw_stream.specs.declared.fault.RunFault.{RunFault}
 use Rattle.gw_stream.specs.declared.fault.RunFault.TheVariants.{Memory, Write}
 use Rattle.gw_stream.specs.declared.judge.Outcome.{Outcome}
-use Rattle.gw_stream.specs.Answers.{Answer, IsSaidUnder, IsSettled, Message, ValidatedBy}
+use Rattle.gw_stream.specs.Answers.{Answer, IsReadAs, IsSaidUnder, IsSettled, Message, ValidatedBy, header_for}
 use Rattle.gw_stream.specs.Counted.{IsTotal, nothing, with_answer}
 use Rattle.gw_stream.specs.Exchanges.{Exchange, Exchanges, blocks_of, content_of, with_answers}
 use Rattle.gw_stream.specs.Sent.{SendsPart}
@@ -16,6 +17,11 @@ use Rattle.gw_stream.specs.Walked.{Place, Walks}
 
 abbrev pub answered : program.Answer → Answer
 answered a = record { code = a.code; content = a.content.items }
+
+-- whatever content is read so, it is settled, and the answer under this header says so, if one was made
+abbrev pub SettlesRead : {E : Type 0} → (Option Message → Outcome → Type 0) → Option Message → HeaderValue → Result program.Answer E → Type 0
+SettlesRead Settles what header result =
+    (content : List ℕ) → IsReadAs content what → header ≡ header_for what → IfOk result (λ a. IsSettled Settles content (answered a))
 
 -- what a judge by one profile settles
 pub record ProfileSettles (old new : ByProfile) (number : ℕ) (what : Option Message) (outcome : Outcome) : Type 0 where

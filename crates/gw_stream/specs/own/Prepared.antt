@@ -1,9 +1,10 @@
 -- What is prepared of a content before anything is written, and how a run under a plan comes on.
-use Rattle.std.specs.Prelude.{◌≡◌, ℕ, ◌+◌, ◌<◌, List, [], ◌∷◌, ◌++◌, length, map, Ok, Option}
+use Rattle.std.specs.Prelude.{◌≡◌, ℕ, ◌+◌, ◌<◌, List, [], ◌∷◌, ◌++◌, length, map, Option, Result, Ok, IfOk}
 use Rattle.std.specs.Arc.{arc_value}
 use Rattle.std.specs.List.{AllByRecursion, AllZip}
 use Rattle.gw_ack.specs.declared.reply.Reply.{Reply}
 use Rattle.gw_er7.specs.Message.{SegmentValue}
+use Rattle.gw_plan.specs.Admitted.{ConformingHeld}
 use Rattle.gw_plan.specs.Held.{plan_value}
 use Rattle.gw_plan.specs.Routing.{routed}
 use Rattle.gw_plan.specs.Shapes.{PlanValue, RouteValue}
@@ -32,6 +33,11 @@ pub record IsPrepared (m : List SegmentValue) (route : RouteValue) (receiver : �
   pub delivery : Delivery
   pub is_delivery : IsDelivery m route receiver delivery
   pub is_post : post prepared ≡ delivered delivery
+
+-- the same of a message that was admitted, if one was made
+abbrev pub PreparesFor : {E : Type 0} → ConformingHeld → ℕ → Result program.Delivery E → Type 0
+PreparesFor c number result =
+    (route : RouteValue) → routed (plan_value c.plan) c.tree.message ≡ Ok route → IfOk result (IsPrepared c.tree.message route number)
 
 -- they hold what the receivers of the message's route are sent, in its order
 pub record ArePrepared (plan : PlanValue) (m : List SegmentValue) (prepared : List program.Delivery) : Type 0 where
@@ -69,6 +75,15 @@ pub data ServesNot (plan : PlanValue) (stamp : List ℕ) (number : ℕ) (content
   nothing_sent : ServesNot plan stamp number content before before Memory
   cut : (after : Known) (serving : Serving) → IsServing plan stamp number content serving → SendsSome (posts_of serving) before after
       → ServesNot plan stamp number content before after Write
+
+-- the same by a judge under that plan
+abbrev pub ServesBy : UnderPlan → List ℕ → Counts → Counts → Known → Known → Type 0
+ServesBy judge content c c' before after = ServesOne (plan_value (arc_value judge.plan)) judge.stamp content before after c c'
+
+-- how it got nothing, or a part, by a judge under that plan
+abbrev pub ServesNotBy : UnderPlan → List ℕ → Counts → RunFault → Known → Known → Type 0
+ServesNotBy judge content c fault before after =
+    ServesNot (plan_value (arc_value judge.plan)) judge.stamp (c.answered + 1) content before after fault
 
 -- what all blocks that were given so far get was sent whole, and counted
 pub record ServesSoFar (plan : PlanValue) (stamp : List ℕ) (left : Option (List ℕ)) (reads : ℕ) (here : Place)

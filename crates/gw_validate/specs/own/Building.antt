@@ -1,11 +1,15 @@
 -- A tree that is cut from the front of a list.
-use Rattle.std.specs.Prelude.{◌≡◌, ℕ, ◌+◌, ◌≤◌, List, ◌++◌, Option, length, map}
+use Rattle.std.specs.Prelude.{◌≡◌, ℕ, ◌+◌, ◌-◌, ◌≤◌, List, ◌++◌, Option, length, map, take, drop}
 use Rattle.std.specs.List.{AllByRecursion}
+use Rattle.gw_profile.specs.declared.shape.Card.{Card}
 use Rattle.gw_profile.specs.Shapes.{Forest, segment, SegmentValue, GroupValue}
 use Rattle.gw_validate.specs.Cuts.{Fits}
 use Rattle.gw_profile.specs.Deterministic.{Name, AtMost, Determined, NoName}
 use Rattle.gw_validate.specs.own.Residual.{append, seg, grp}
 use Rattle.gw_validate.specs.Trees.{Tree, Trees, count_of, IsTree, AreTrees}
+use Rattle.gw_validate.specs.declared.occurrences.Occurrences.{Occurrences}
+use Rattle.gw_validate.specs.declared.occurrences.Found.{Found}
+use Rattle.gw_validate.specs.own.Occurring.{found_of, node_tree, tree_of, trees_of}
 
 -- the tree of a front of the list, behind which g fits
 pub record Built (named : ℕ → Name) (f g : Forest) (list : List ℕ) (t : Tree) (rest : List ℕ) : Type 0 where
@@ -45,6 +49,28 @@ abbrev pub BuildsSegments : (ℕ → Name) → SegmentValue → List ℕ → Lis
 BuildsSegments named sv list ns rest =
     (g : Forest) → Determined (segment sv g) NoName → Fits (segment sv g) (map named list)
     → BuiltSegments named sv.name sv.card.min sv.card.max g list ns rest
+
+-- ---- what was kept of the listed numbers from one place on, with the place behind it
+
+-- of a segment: its numbers lie between the two places
+abbrev pub BuildsSegmentsAt : (ℕ → Name) → SegmentValue → List ℕ → ℕ → ℕ → Type 0
+BuildsSegmentsAt named sv listed at behind =
+    BuildsSegments named sv (drop at listed) (take (behind - at) (drop at listed)) (drop behind listed)
+
+-- of a group with these nodes
+abbrev pub BuildsGroupsAt : (ℕ → Name) → Card → Forest → List ℕ → ℕ → Option Occurrences × ℕ → Type 0
+BuildsGroupsAt named card nodes listed at b =
+    BuildsGroups named card.min card.max nodes (drop at listed) (trees_of listed nodes (found_of b.0)) (drop b.1 listed)
+
+-- of one node
+abbrev pub BuildsNodeAt : (ℕ → Name) → Forest → List ℕ → ℕ → Option Occurrences × ℕ → Type 0
+BuildsNodeAt named node listed at b = Builds named node (drop at listed) (node_tree listed node b.0) (drop b.1 listed)
+
+-- of a list of nodes
+abbrev pub BuildsNodesAt : (ℕ → Name) → Forest → List ℕ → ℕ → Found × ℕ → Type 0
+BuildsNodesAt named nodes listed at b = Builds named nodes (drop at listed) (tree_of listed nodes b.0) (drop b.1 listed)
+
+-- ---- where a walk stands
 
 -- how many are still to come, and how many have come
 pub record Still (low : ℕ) (high : Option ℕ) (count due_low : ℕ) (due_high : Option ℕ) : Type 0 where

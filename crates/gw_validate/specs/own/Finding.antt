@@ -1,5 +1,5 @@
 -- How all breaches of a message's segments are found.
-use Rattle.std.specs.Prelude.{◌≡◌, ℕ, ◌+◌, ◌<◌, ◌^◌, List, [], ◌∷◌, ◌++◌, map, unwrap_or}
+use Rattle.std.specs.Prelude.{◌≡◌, ℕ, ◌+◌, ◌<◌, ◌^◌, List, [], ◌∷◌, ◌++◌, length, map, get_or, unwrap_or}
 use Rattle.std.specs.BTreeMap.{BTreeMap, get}
 use Rattle.std.specs.Ordering.{nat_cmp}
 use Rattle.std.specs.Cmp.Lexicographic.{slice_cmp}
@@ -48,6 +48,10 @@ breach_of m (n, spot) = (
     sub = spot.sub;
   },
 )
+
+-- each segment's number among those of its name, from 1
+abbrev pub AreSequences : List SegmentValue → List ℕ → Type 0
+AreSequences m all = (number : ℕ) → number < length m → get_or all number 0 ≡ sequence m number (named m number)
 
 -- how many segments of a name were counted
 abbrev pub count_of : BTreeMap (List ℕ) ℕ → Name → ℕ

@@ -53,6 +53,10 @@ tree_from listed at k (group g nodes rest) = groups (each_tree (λ x. tree_from 
 abbrev pub tree_of : List ℕ → Forest → Found → Tree
 tree_of listed nodes x = tree_from listed (kept x) 0 nodes
 
+-- the tree of one node alone, by its occurrences
+abbrev pub node_tree : List ℕ → Forest → Option Occurrences → Tree
+node_tree listed f found = tree_from listed (λ _. found) 0 f
+
 abbrev pub trees_of : List ℕ → Forest → List Found → Trees
 trees_of listed nodes xs = each_tree (tree_of listed nodes) xs
 

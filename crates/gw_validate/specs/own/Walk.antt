@@ -1,5 +1,6 @@
 -- A walk over the texts of a segment, in order.
-use Rattle.std.specs.Prelude.{◌≡◌, ℕ, ◌+◌, ◌^◌, ◌<◌, ◌≤◌, List, [], ◌∷◌, length, Option, None, Some, slice_get}
+use Rattle.std.specs.Prelude.{◌≡◌, ℕ, ◌+◌, ◌^◌, ◌<◌, ◌≤◌, List, [], ◌∷◌, length, Option, None, Some, MatchOption, slice_get}
+use Rattle.std.specs.FinMap as texts
 use Rattle.std.specs.Ordering.{nat_cmp}
 use Rattle.std.specs.declared.cmp.Ordering.TheVariants.{Less}
 use Rattle.std.specs.Cmp.Lexicographic.{slice_cmp}
@@ -15,6 +16,22 @@ use Rattle.gw_validate.specs.own.Least.{Rises}
 pub record IsBefore (key : List ℕ) (es : List Entry) (n : ℕ) : Type 0 where
   pub bound : n ≤ length es
   pub before : (i : ℕ) (e : Entry) → i < n → slice_get es i ≡ Some e → slice_cmp nat_cmp e.0 key ≡ Less
+
+-- the first n texts of a segment stand below this field
+abbrev pub IsBeforeField : Texts → ℕ → ℕ → Type 0
+IsBeforeField m f n = IsBefore (f ∷ 0 ∷ 0 ∷ 0 ∷ []) (texts.entries m) n
+
+-- they stand below this repetition of the field
+abbrev pub IsBeforeRep : Texts → ℕ → ℕ → ℕ → Type 0
+IsBeforeRep m f r n = IsBefore (f ∷ r ∷ 0 ∷ 0 ∷ []) (texts.entries m) n
+
+-- they stand below this component of the repetition
+abbrev pub IsBeforeComp : Texts → ℕ → ℕ → ℕ → ℕ → Type 0
+IsBeforeComp m f r c n = IsBefore (f ∷ r ∷ c ∷ 0 ∷ []) (texts.entries m) n
+
+-- they stand below the repetition that was found, or where none was, below the next field
+abbrev pub IsBeforeFound : Texts → ℕ → Option ℕ → ℕ → Type 0
+IsBeforeFound m f found n = MatchOption found (IsBeforeField m (f + 1) n) (λ rep. IsBeforeRep m f rep n)
 
 -- this entry has the number n
 pub record IsHere (es : List Entry) (n : ℕ) (entry : Entry) : Type 0 where
@@ -43,6 +60,10 @@ pub record IsNextRep (m : Texts) (f after rep : ℕ) : Type 0 where
 pub record IsNoRep (m : Texts) (f after : ℕ) : Type 0 where
   pub none : (r : ℕ) → RepAt m f r → r ≤ after
   pub some : (r : ℕ) → RepAt m f r → 0 < r
+
+-- the first repetition behind this one that is present, or that none is
+abbrev pub IsNextFound : Texts → ℕ → ℕ → Option ℕ → Type 0
+IsNextFound m f after found = MatchOption found (IsNoRep m f after) (IsNextRep m f after)
 
 -- so many of all numbers are present
 pub record IsCount (P : ℕ → Type 0) (count : ℕ) : Type 0 where

@@ -7,6 +7,6 @@ abbrev pub invariant-reads : goal.invariant-reads
 invariant-reads g l = record {
   works : g.R.Source.has_failed l.reader ≡ false;
   empty : l.decoder.waiting ≡ [];
-  reading : Reads l._read (spot g.R.Source.remaining g.R.Source.reads l.fn.reader) l.fn.decoder (spot g.R.Source.remaining g.R.Source.reads l.reader)
+  reading : Reads l._read (spot g.R.Source l.fn.reader) l.fn.decoder (spot g.R.Source l.reader)
       l.decoder;
 }

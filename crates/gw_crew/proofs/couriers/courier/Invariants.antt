@@ -7,7 +7,7 @@ abbrev pub invariant-rounds : goal.invariant-rounds
 invariant-rounds g l = record {
   reads : g.R.Source.has_failed l.reader ≡ false;
   writes : g.W.Sink.has_failed l.writer ≡ false;
-  progress : Progress l.receiver (spot g.R.Source.remaining g.R.Source.reads l.fn.reader) (spot g.R.Source.remaining g.R.Source.reads l.reader)
+  progress : Progress l.receiver (spot g.R.Source l.fn.reader) (spot g.R.Source l.reader)
       (g.W.Sink.contents l.fn.writer) (g.W.Sink.contents l.writer) l.decoder (g.D.Door.noted l.fn.door) (g.D.Door.noted l.door) l.counts;
 }
 

@@ -3,7 +3,7 @@ use Rattle.gw_gate.proofs.Chaptered.{joined_in_order, joined_versions, joined_nu
 use Rattle.gw_gate.proofs.laws.sent_over_chapters.Goals as goal
 
 pub returns-clause-order : goal.returns-clause-order
-returns-clause-order c = joined_in_order Makes
+returns-clause-order c first more all follow r = joined_in_order Makes first more r all follow
 
 pub returns-clause-versions : goal.returns-clause-versions
 returns-clause-versions c = joined_versions Makes

@@ -2,7 +2,7 @@ use Rattle.gw_stream.proofs.Unique.{one_answer_of}
 use Rattle.gw_stream.proofs.laws.one_answer.Goals as goal
 
 pub returns : goal.returns
-returns c p stamp content number a b formed x y =
+returns c p stamp content number formed a b x y =
     one_answer_of p stamp content number a b
     (record {
       message = c.reads_once.ensures.message content;

@@ -19,7 +19,7 @@ invariant-each g l =
       writers : length l.outs.items ≡ length l.fn.outs.items;
       plan : arc_value l.judge.plan ≡ l.fn.plan;
       stamp : l.judge.stamp ≡ l.fn.stamp;
-      serves : ServesSoFar (plan_value l.fn.plan) l.fn.stamp (R.remaining l.fn.reader) (R.reads l.fn.reader) (place R.remaining R.reads l.reader l.blocks)
+      serves : ServesSoFar (plan_value l.fn.plan) l.fn.stamp (R.remaining l.fn.reader) (R.reads l.fn.reader) (place R l.reader l.blocks)
           (known A.contents W.contents l.fn.answers l.fn.outs.items) (known A.contents W.contents l.answers l.outs.items) l.counts;
     }
 

@@ -1,4 +1,5 @@
-use Rattle.std.proofs.Common.{◌≢◌, ◌⊎◌, [], ℕ, drop, inr, sym, ap, subst, length, arith}
+use Rattle.std.proofs.Common.{◌≢◌, ◌⊎◌, [], ℕ, drop, inr, sym, ap, subst, length, arith, Result, OnOk}
+use Rattle.std.proofs.lemmas.Result.{on_ok_weaker}
 use Rattle.gw_spool.specs.File.{KeepsEither}
 use Rattle.gw_spool.specs.Folder.{LeavesAt, put}
 use Rattle.gw_spool.specs.Rows.{RowState, IsRow, HasFailed, disk}
@@ -7,6 +8,9 @@ use Rattle.gw_spool.proofs.Moments.{weaker, joined}
 use Rattle.gw_spool.proofs.Joining.{no_records}
 use Rattle.gw_spool.proofs.Rowed.{acked_open, acked_row, acked_passing, acked_moves, acked_failed}
 use Rattle.gw_spool.proofs.row.Row.acknowledge_first.Goals as goal
+
+behind : {T E P Q : Type 0} (r : Result T E) → OnOk r P → (P → Q) → OnOk r Q
+behind r holds to = on_ok_weaker r to holds
 
 pub returns-then-len-gt0-clause-row : goal.returns-then-len-gt0-clause-row
 returns-then-len-gt0-clause-row g c = λ known each more is.
@@ -35,12 +39,12 @@ returns-in-Err-clause-err g c = λ known each more is.
     (sym c.self.view_is) (acked_failed _ c.args.self.now c.args.spool c.acknowledge.new.self _ each more is c.in-Err.ensures.unbroken)
 
 pub returns-clause-row : goal.returns-clause-row
-returns-clause-row g c = λ known each more is.
+returns-clause-row g c = behind c.advance.result c.advance.ensures.row (λ passes known each more is.
     let opens = acked_open _ _ _ g.met.D.Device.counts_now g.met.D.Device.only_now c.args.self.now c.args.spool c.acknowledge.new.self _ each more is c.in-Ok.ensures.ok c.in-Ok.ensures.safe in
     let none = no_records (drop 1 (each c.args.self.now.first)) (omega (arith, ap length opens.stands.kept, c.len.ensures, c.if-len-gt0.false)) in
     let passing = subst (λ (r : RowState _). IsPassing g.D.Device.may_leave (record r { waiting = c.saturating_sub-self-inside.result }) c.acknowledge.new.self (g.F.Folder.files c.args.folder.now) (put c.args.self.now.first (drop 1 (each c.args.self.now.first)) each) more) (sym c.self.view_is)
     (acked_passing _ _ _ g.met.D.Device.counts_now g.met.D.Device.only_now c.args.self.now c.args.spool c.acknowledge.new.self _ each more is c.saturating_sub-self-inside.result opens none) in
-    c.advance.ensures.row known (put c.args.self.now.first (drop 1 (each c.args.self.now.first)) each) more passing
+    passes known (put c.args.self.now.first (drop 1 (each c.args.self.now.first)) each) more passing)
 
 pub returns-clause-any_moment : goal.returns-clause-any_moment
 returns-clause-any_moment g c = λ known each more is.
