@@ -12,3 +12,4 @@ pub mod Standing
 pub mod Receivers
 pub mod Parts
 pub mod Pairs
+pub mod Restarting

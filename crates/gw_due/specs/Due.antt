@@ -42,9 +42,13 @@ abbrev pub refused : ℕ → List Event → List ℕ
 refused r [] = []
 refused r (e ∷ log) = refused_by r e ++ refused r log
 
+-- what is due to it by a log that goes on from an old one, but for what it had passed by then
+abbrev pub due_since : ℕ → (old new : List Event) → List ℕ
+due_since r old new = drop (length (passed r old)) (due r new)
+
 -- what is left of what is due
 abbrev pub left : ℕ → List Event → List ℕ
-left r log = drop (length (passed r log)) (due r log)
+left r log = due_since r log log
 
 -- ---- the plan
 

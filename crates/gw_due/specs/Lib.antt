@@ -7,4 +7,5 @@ pub mod Views
 pub mod State
 pub mod Says
 pub mod Checkpoint
+pub mod Starting
 pub mod own

@@ -90,3 +90,20 @@ impl<T: Drop> From<AllocFailed<T>> for StateFault {
         StateFault::Memory
     }
 }
+
+/// Why no state comes of a checkpoint and the records behind it.
+#[derive(Clone, Copy, Debug, PartialEq, Eq, Error)]
+pub enum StartFault {
+    /// An allocation failed.
+    #[error("out of memory")]
+    Memory,
+    /// No state is spelled so.
+    #[error("the checkpoint is no state of a gateway's log")]
+    Checkpoint,
+    /// The record of this number, from 0, is none of a gateway's log, or may not follow.
+    #[error("record {at} behind the checkpoint is none of a gateway's log, or may not follow")]
+    Record { at: usize },
+    /// A count has no room for one more before the record of this number.
+    #[error("a count has no room for record {at} behind the checkpoint")]
+    Full { at: usize },
+}

@@ -1,15 +1,16 @@
 //! What holds of the definitions.
-ghost use Rattle.std.specs.Prelude.{◌≡◌, ◌↔◌, ◌<◌, ◌++◌, List, ℕ, drop, length, IsTrue};
+ghost use Rattle.std.specs.Prelude.{◌≡◌, ◌↔◌, ◌<◌, ◌++◌, List, ℕ, length, IsTrue};
 ghost use Rattle.std.specs.List.{AllPairs, fold};
 ghost use mathlib.Core.List.{IsPrefix};
 ghost use Rattle.gw_due.specs.Events.{Event};
-ghost use Rattle.gw_due.specs.Due.{due, names, passed, plan_at};
+ghost use Rattle.gw_due.specs.Due.{due, due_since, names, passed, plan_at};
 ghost use Rattle.gw_due.specs.Lawful.{IsOnePair, Lawful, MayFollow};
 ghost use Rattle.gw_due.specs.Runs.{Covers, Runs};
 ghost use Rattle.gw_due.specs.State.{State, after, allows, state_of};
 ghost use Rattle.gw_due.specs.Checkpoint.{StateFits, checkpoint};
 ghost use Rattle.gw_due.specs.Says.{Says, IsSeen};
 ghost use Rattle.gw_due.specs.Spelling.{Entry, Fits, spelled};
+ghost use Rattle.gw_due.specs.Starting.{IsStateOf, Starts};
 
 /// What a plan says of a message.
 pub trait Rules {
@@ -43,7 +44,7 @@ pub fn one_plan()
 /// but for the one that was sent and not yet passed when a run ended.
 pub fn covered<R: Rules>()
     ensures { (r : ℕ) (old new : List Event) (sent : List (List ℕ)) → Runs r old sent new →
-        Lawful R.routes new → Covers (drop (length (passed r old)) (due r new)) sent }
+        Lawful R.routes new → Covers (due_since r old new) sent }
 {}
 
 /// Bytes spell one record at most.
@@ -71,4 +72,10 @@ pub fn a_state_tells<R: Rules>()
 pub fn a_state_decides<R: Rules>()
     ensures { (log : List Event) (e : Event) → Lawful R.routes log →
         MayFollow R.routes log e ↔ (IsTrue (allows (state_of log) e) × IsSeen R.routes log e) }
+{}
+
+/// Where a checkpoint is that of what stands before, the state that a start makes is that of the log up to the last record.
+pub fn a_start_tells()
+    ensures { (before : List Event) (bytes : List ℕ) (records : List (List ℕ)) (s : State) → StateFits (state_of before) →
+        bytes ≡ checkpoint (state_of before) → Starts bytes records s → IsStateOf before records s }
 {}

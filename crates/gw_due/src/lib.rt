@@ -11,12 +11,14 @@ mod following;
 pub mod laws;
 mod reading;
 mod receiver;
+mod starting;
 mod state;
 mod writing;
 
 pub use event::{Entry, Event, How};
-pub use fault::{ReadFault, SpellFault, StateFault};
+pub use fault::{ReadFault, SpellFault, StartFault, StateFault};
 pub use reading::read;
 pub use receiver::Receiver;
+pub use starting::start;
 pub use state::State;
 pub use writing::spell;

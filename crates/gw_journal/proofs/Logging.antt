@@ -6,7 +6,7 @@ use Rattle.std.proofs.lemmas.List.{map-append, length-map}
 use mathlib.Core.List.{IsPrefix}
 use Rattle.gw_journal.specs.declared.event.Event.{Event}
 use Rattle.gw_journal.specs.declared.event.Event.TheVariants.{Put, Synced}
-use Rattle.gw_journal.specs.Logs.{Log, opened, next, after, log_in, records_of, IsLater, IsAt, IsStored, Keeps, Outlives, StandsAt, IsTrue, IsJob, IsDone, JobState}
+use Rattle.gw_journal.specs.Logs.{Log, opened, next, after, log_in, records_of, IsLater, IsAt, IsStored, Fits, AreFit, Keeps, Outlives, AllStand, IsTrue, IsJob, IsDone, JobState}
 
 -- ---- lists
 
@@ -66,6 +66,10 @@ get_take zero xs k x less e = absurd (omega arith)
 get_take (suc n) [] k x less e = absurd (cc)
 get_take (suc n) (z ∷ xs) zero x less e = e
 get_take (suc n) (z ∷ xs) (suc k) x less e = get_take n xs k x (omega arith) e
+
+fit_more : (batch : List (List ℕ)) (bytes : List ℕ) → AreFit batch → Fits bytes → AreFit (batch ++ bytes ∷ [])
+fit_more [] bytes all fits = (fits, tt)
+fit_more (b ∷ batch) bytes all fits = (all.0, fit_more batch bytes all.1 fits)
 
 -- ---- one event more
 
@@ -141,14 +145,15 @@ module _ {S : Type 0} (stands : S → List (List ℕ) → List (List ℕ) → Ty
         order = omega arith;
         synced = omega (arith, size);
         room = omega (arith, size, few);
+        fit = subst AreFit (sym empty) tt;
         keeps = subst (λ rs. stands s rs (drop count (take count before))) (sym (ap (λ n. take n before) size ∙ take_all before))
             (subst (λ rs. stands s before rs) (sym (none_past count before)) stand);
       })
 
   pub true_put : (storage : Option S) (batch more : List (List ℕ)) (given settled : ℕ) (old new : List Event) (bytes : List ℕ)
-      → new ≡ old ++ Put bytes ∷ [] → more ≡ batch ++ bytes ∷ [] → given + length batch < 2 ^ 62 → IsTrue stands storage batch given settled (log_in before old)
-      → IsTrue stands storage more given settled (log_in before new)
-  true_put storage batch more given settled old new bytes is longer room t =
+      → new ≡ old ++ Put bytes ∷ [] → more ≡ batch ++ bytes ∷ [] → given + length batch < 2 ^ 62 → Fits bytes
+      → IsTrue stands storage batch given settled (log_in before old) → IsTrue stands storage more given settled (log_in before new)
+  true_put storage batch more given settled old new bytes is longer room fits t =
       let log = log_in before old in
       let l : IsLater log (next log (Put bytes)) = record { more = bytes ∷ []; records = refl; synced = omega arith } in
       let size = length-append log.records (bytes ∷ []) in
@@ -158,6 +163,7 @@ module _ {S : Type 0} (stands : S → List (List ℕ) → List (List ℕ) → Ty
         order = t.order;
         synced = t.synced;
         room = omega (arith, size, room, ap length t.not_given, length_drop given log.records, t.within);
+        fit = subst AreFit (sym longer) (fit_more batch bytes t.fit fits);
         keeps = still_keeps storage settled given log (next log (Put bytes)) l t.order t.within t.keeps;
       })
 
@@ -198,15 +204,16 @@ module _ {S : Type 0} (stands : S → List (List ℕ) → List (List ℕ) → Ty
         order = done.order;
         synced = omega (arith, t.synced, more);
         room = t.room;
+        fit = t.fit;
         keeps = keeps_later s settled given (log_in before part) log l done.order (omega (arith, done.all)) done.keeps;
       })
 
-  -- the record of a receipt stands in the storage, where that is here
-  pub stands_there : (storage : Option S) (batch : List (List ℕ)) (given settled : ℕ) (history seen_of : List Event) (place : ℕ) (bytes : List ℕ)
-      → IsTrue stands storage batch given settled (log_in before history) → IsPrefix seen_of history → IsStored place bytes (log_in before seen_of)
-      → IfSome storage (λ s. StandsAt stands s place bytes)
-  stands_there None batch given settled history seen_of place bytes t p stored = tt
-  stands_there (Some s) batch given settled history seen_of place bytes t p stored =
+  -- the records of a receipt stand in the storage, where that is here
+  pub stand_there : (storage : Option S) (batch : List (List ℕ)) (given settled : ℕ) (history seen_of : List Event)
+      → IsTrue stands storage batch given settled (log_in before history) → IsPrefix seen_of history
+      → IfSome storage (λ s. AllStand stands (log_in before seen_of) s)
+  stand_there None batch given settled history seen_of t p = tt
+  stand_there (Some s) batch given settled history seen_of t p = λ place bytes stored.
       let now = stored_later place bytes (log_in before seen_of) (log_in before history) (log_later before seen_of history p) stored in
       record {
         these = take settled (log_in before history).records;

@@ -1,5 +1,6 @@
 -- What is known of a journal, by its history.
-use Rattle.std.specs.Prelude.{ℕ, ◌+◌, ◌<◌, ◌≤◌, ◌≡◌, ◌^◌, max, ◌⊎◌, List, [], ◌∷◌, ◌++◌, length, take, drop, map, slice_get, Option, Some, IfSome, IsSome, IsNone, Vec}
+use Rattle.std.specs.Prelude.{ℕ, ◌+◌, ◌<◌, ◌≤◌, ◌≡◌, ◌≢◌, ◌^◌, max, ◌⊎◌, List, [], ◌∷◌, ◌++◌, length, take, drop, map, slice_get, Option, Some, IfSome, IsSome, IsNone, Vec}
+use Rattle.std.specs.List.{AllByRecursion}
 use Rattle.std.specs.declared.alloc.Global.{Global}
 use mathlib.Core.List.{IsPrefix}
 use Rattle.gw_journal.specs.declared.event.Event.{Event}
@@ -52,6 +53,20 @@ pub record TicketState : Type 0 where
   pub history : List Event
   pub place : ℕ
 
+-- the record at the ticket's place is on the disk by the receipt
+abbrev pub Confirms : List (List ℕ) → TicketState → TicketState → Type 0
+Confirms before ticket receipt =
+    (bytes : List ℕ) → IsAt ticket.place bytes (log_in before ticket.history) → IsStored ticket.place bytes (log_in before receipt.history)
+
+-- a record that a journal takes has a byte, and no more than 2,147,483,648
+pub record Fits (bytes : List ℕ) : Type 0 where
+  pub some : bytes ≢ []
+  pub short : length bytes ≤ 2 ^ 31
+
+-- each is one that a journal takes
+abbrev pub AreFit : List (List ℕ) → Type 0
+AreFit records = AllByRecursion Fits records
+
 -- ---- the storage
 
 -- Of the records of a journal the storage was given the first, this many. Of these the settled ones count, and the others are pending
@@ -72,6 +87,14 @@ pub record StandsAt {S : Type 0} (stands : S → List (List ℕ) → List (List 
   pub stand : stands s these pending
   pub there : slice_get these place ≡ Some bytes
 
+-- each record that is on the disk by this journal outlives a crash
+abbrev pub AllOutlive : {S : Type 0} → (S → S → List (List ℕ) → List (List ℕ) → Type 0) → Log → S → S → Type 0
+AllOutlive leaves log old new = (place : ℕ) (bytes : List ℕ) → IsStored place bytes log → Outlives leaves old new place bytes
+
+-- each stands at its place of the storage
+abbrev pub AllStand : {S : Type 0} → (S → List (List ℕ) → List (List ℕ) → Type 0) → Log → S → Type 0
+AllStand stands log s = (place : ℕ) (bytes : List ℕ) → IsStored place bytes log → StandsAt stands s place bytes
+
 -- ---- what lies under the lock, and what a thread takes from there
 
 -- the storage, where no thread has it; the records that it wasn't given; how many it was given, and how many of them count; the history;
@@ -84,9 +107,17 @@ pub record DeskState (S : Type 0) : Type 0 where
   pub history : List Event
   pub fault : Option JournalFault
 
+-- there are 2^62 events
+abbrev pub IsSpent : {S : Type 0} → DeskState S → Type 0
+IsSpent desk = 2 ^ 62 ≤ length desk.history
+
 -- there are 2^62 records or events
 abbrev pub IsFull : {S : Type 0} → DeskState S → Type 0
-IsFull desk = (2 ^ 62 ≤ desk.given + length desk.batch) ⊎ (2 ^ 62 ≤ length desk.history)
+IsFull desk = (2 ^ 62 ≤ desk.given + length desk.batch) ⊎ IsSpent desk
+
+-- the history is longer than it was
+abbrev pub HasGrown : {S : Type 0} → DeskState S → DeskState S → Type 0
+HasGrown old new = length old.history < length new.history
 
 -- nothing is asked of the storage: there was a fault, or a thread has it, or it has all records and they count
 abbrev pub IsIdle : {S : Type 0} → DeskState S → Type 0
@@ -100,6 +131,7 @@ pub record IsTrue {S : Type 0} (stands : S → List (List ℕ) → List (List �
   pub order : settled ≤ given
   pub synced : log.synced ≤ settled
   pub room : length log.records ≤ 2 ^ 62
+  pub fit : AreFit batch
   pub keeps : IfSome storage (λ s. Keeps stands s settled given log)
 
 -- the storage with a batch that it is to be given, and what of the history was seen when both were taken

@@ -1,7 +1,7 @@
 //! What lies under the lock of a journal, and what threads take from it.
 ghost use Rattle.std.specs.Prelude.{◌≡◌, ◌≤◌, ◌<◌, ◌^◌, ◌⊎◌, ◌↔◌, [], IfOk, IfErr, IfSome, IsErrOf, IsNone, IsSome, OnOk, OnErr, Some, IsTrue, length, ℕ, List, ◌++◌, ◌∷◌};
 ghost use mathlib.Core.List.{IsPrefix};
-ghost use Rattle.gw_journal.specs.Logs.{ComesBack, IsAt, IsFull, IsIdle, IsStored, Outlives, StandsAt, log_in, records_of};
+ghost use Rattle.gw_journal.specs.Logs.{AllOutlive, AllStand, AreFit, ComesBack, Confirms, Fits, HasGrown, IsAt, IsFull, IsIdle, IsSpent, log_in, records_of};
 
 use crate::book::{Front, History, Naming, Opened, Putting, Syncing};
 use crate::fault::JournalFault;
@@ -12,6 +12,9 @@ use std::mem::replace;
 
 /// The most records of a journal.
 const MOST: u64 = 1 << 62;
+
+/// The most bytes of a record.
+const LONGEST: usize = 1 << 31;
 
 /// A record that was put, at its place in the journal. It need not be on the disk yet.
 #[derive(Drop)]
@@ -140,8 +143,7 @@ fn stored<J: Naming>(ticket: &Ticket<J>, front: &Front<J>, synced: u64) -> Optio
     requires { synced ≤ (log_in J.before front.now).synced }
     ensures none { IsNone result ↔ synced ≤ ticket.now.place }
     ensures place { IfSome result (λ r. r.place ≡ ticket.now.place) }
-    ensures stored { (bytes : List ℕ) → IsAt ticket.now.place bytes (log_in J.before ticket.now.history)
-        → IfSome result (λ r. IsStored ticket.now.place bytes (log_in J.before r.history)) }
+    ensures stored { IfSome result (λ r. Confirms J.before ticket.now r) }
 {
     if synced <= ticket.place {
         return None;
@@ -161,6 +163,7 @@ fn stored<J: Naming>(ticket: &Ticket<J>, front: &Front<J>, synced: u64) -> Optio
 
 // Gives a storage a batch. With an empty one it settles.
 fn bring<S: Storage>(storage: &mut S, batch: &[Vec<u8>]) -> Result<(), JournalFault>
+    requires { AreFit (records_of batch.now) }
     ensures ok { (these those : List (List ℕ)) → S.stands storage.old these those →
         OnOk result (S.stands storage.new (these ++ those) (records_of batch.now)) }
     ensures any_moment { (these those : List (List ℕ)) → S.stands storage.old these those →
@@ -177,10 +180,10 @@ impl<J: Naming, S: Storage + Drop> Job<J, S> {
     /// Gives the storage its batch, or has it settle. A crash at any moment leaves each record that there was a receipt for. A fault is the storage's own.
     pub fn run(self) -> Result<Done<J, S>, (JournalFault, S)>
         ensures same { IfOk result (λ done. done.history ≡ self.history) }
-        ensures any_moment { IfOk result (λ done. (place : ℕ) (bytes : List ℕ) → IsStored place bytes (log_in J.before self.history)
-            → Outlives S.leaves self.storage done.storage place bytes) }
-        ensures any_moment_err { IfErr result (λ e. (place : ℕ) (bytes : List ℕ) → IsStored place bytes (log_in J.before self.history)
-            → Outlives S.leaves self.storage e.1 place bytes) }
+        ensures any_moment { IfOk result (λ done.
+            AllOutlive S.leaves (log_in J.before self.history) self.storage done.storage) }
+        ensures any_moment_err { IfErr result (λ e.
+            AllOutlive S.leaves (log_in J.before self.history) self.storage e.1) }
         ensures err { IfErr result (λ e. S.fails self.storage e.1 e.0) }
     {
         let Job {
@@ -235,7 +238,7 @@ impl<J: Naming, S: Storage + Drop> Desk<J, S> {
         self.fault
     }
 
-    /// Puts a record after the others. An allocation failure leaves the journal as it was.
+    /// Puts a record of 1 to 2,147,483,648 bytes after the others. An allocation failure leaves the journal as it was.
     pub fn put(&mut self, bytes: Vec<u8>) -> Result<Ticket<J>, JournalFault>
         ensures put { IfOk result (λ t. IsAt t.place bytes.items (log_in J.before t.history)) }
         ensures seen { IfOk result (λ t. t.history ≡ self.new.history) }
@@ -245,16 +248,26 @@ impl<J: Naming, S: Storage + Drop> Desk<J, S> {
         // Once there was a fault, it is the answer.
         ensures faulty { IfSome self.old.fault (λ fault. IsErrOf result fault) }
         ensures disk { IsErrOf result JournalFault.Disk ↔ (self.old.fault ≡ Some JournalFault.Disk) }
-        ensures full { IsNone self.old.fault → IsFull self.old → IsErrOf result JournalFault.Full }
-        ensures full_only { IsErrOf result JournalFault.Full → (self.old.fault ≡ Some JournalFault.Full)
-            ⊎ IsFull self.old ⊎ (length self.old.history < length self.new.history) }
+        ensures empty { IsNone self.old.fault → (IsErrOf result JournalFault.Empty ↔ (bytes.items ≡ [])) }
+        ensures long { IsNone self.old.fault → (IsErrOf result JournalFault.TooLong ↔ (2 ^ 31 < length bytes.items)) }
+        ensures full { IsNone self.old.fault → Fits bytes.items → IsFull self.old → IsErrOf result JournalFault.Full }
+        ensures full_only { IsErrOf result JournalFault.Full →
+            (self.old.fault ≡ Some JournalFault.Full) ⊎ IsFull self.old ⊎ HasGrown self.old self.new }
 
         // An error leaves all as it was, unless another than this desk added to the history.
         ensures memory { IsErrOf result JournalFault.Memory → self.new ≡ self.old }
-        ensures err { OnErr result ((self.new ≡ self.old) ⊎ (length self.old.history < length self.new.history)) }
+        ensures no_bytes { IsErrOf result JournalFault.Empty → self.new ≡ self.old }
+        ensures too_many { IsErrOf result JournalFault.TooLong → self.new ≡ self.old }
+        ensures err { OnErr result ((self.new ≡ self.old) ⊎ HasGrown self.old self.new) }
     {
         if let Some(fault) = self.fault {
             return Err(fault);
+        }
+        if bytes.is_empty() {
+            return Err(JournalFault::Empty);
+        }
+        if bytes.len() > LONGEST {
+            return Err(JournalFault::TooLong);
         }
         let place = self.given + self.batch.len() as u64;
         if place >= MOST || self.history.is_full() {
@@ -318,8 +331,8 @@ impl<J: Naming, S: Storage + Drop> Desk<J, S> {
         ensures faulty { IsSome self.old.fault → self.new.fault ≡ self.old.fault }
         ensures disk { self.new.fault ≡ Some JournalFault.Disk →
             (self.old.fault ≡ Some JournalFault.Disk) ⊎ (ComesBack self.old done → ⊥) }
-        ensures full { self.new.fault ≡ Some JournalFault.Full → (self.old.fault ≡ Some JournalFault.Full)
-            ⊎ (2 ^ 62 ≤ length self.old.history) ⊎ (length self.old.history < length self.new.history) }
+        ensures full { self.new.fault ≡ Some JournalFault.Full →
+            (self.old.fault ≡ Some JournalFault.Full) ⊎ IsSpent self.old ⊎ HasGrown self.old self.new }
     {
         if !self.is_ours(&done) {
             self.fail(JournalFault::Disk);
@@ -353,16 +366,14 @@ impl<J: Naming, S: Storage + Drop> Desk<J, S> {
     pub fn receipt(&self, ticket: &Ticket<J>) -> Option<Receipt<J>>
         ensures none { IsNone result ↔ self.now.settled ≤ ticket.now.place }
         ensures place { IfSome result (λ r. r.place ≡ ticket.now.place) }
-        ensures stored { (bytes : List ℕ) → IsAt ticket.now.place bytes (log_in J.before ticket.now.history)
-            → IfSome result (λ r. IsStored ticket.now.place bytes (log_in J.before r.history)) }
+        ensures stored { IfSome result (λ r. Confirms J.before ticket.now r) }
     {
         stored(ticket, self.history.front(), self.settled)
     }
 
     /// Gives the storage back, where it is here and the receipt is one of this journal: its record stands at its place.
     pub fn close(self, receipt: &Receipt<J>) -> Option<S>
-        ensures { (place : ℕ) (bytes : List ℕ) → IsStored place bytes (log_in J.before receipt.now.history)
-            → IfSome result (λ s. StandsAt S.stands s place bytes) }
+        ensures { IfSome result (λ s. AllStand S.stands (log_in J.before receipt.now.history) s) }
     {
         if self.fault.is_some() || !receipt.front.begins(self.history.front()) {
             return None;

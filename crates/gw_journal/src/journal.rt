@@ -1,5 +1,5 @@
 //! A journal that threads share.
-ghost use Rattle.gw_journal.specs.Logs.{IsAt, IsStored, log_in};
+ghost use Rattle.gw_journal.specs.Logs.{Confirms, IsAt, log_in};
 
 use crate::book::Naming;
 use crate::desk::{Desk, Receipt, Ticket};
@@ -17,7 +17,7 @@ pub struct Journal<J: Naming, S: Storage + Drop> {
 }
 
 impl<J: Naming, S: Storage + Drop> Journal<J, S> {
-    ghost use Rattle.std.specs.Prelude.{◌≡◌, IfOk, ℕ, List};
+    ghost use Rattle.std.specs.Prelude.{◌≡◌, IfOk};
 
     /// A journal under a lock.
     pub fn new(alloc: Global, desk: Desk<J, S>) -> Journal<J, S> {
@@ -28,7 +28,7 @@ impl<J: Naming, S: Storage + Drop> Journal<J, S> {
         }
     }
 
-    /// Puts a record after the others. It need not be on the disk yet.
+    /// Puts a record of 1 to 2,147,483,648 bytes after the others. It need not be on the disk yet.
     pub fn put<R: Wait>(&self, rt: &R, bytes: Vec<u8>) -> Result<Ticket<J>, JournalFault>
         ensures { IfOk result (λ t. IsAt t.place bytes.items (log_in J.before t.history)) }
     {
@@ -38,8 +38,7 @@ impl<J: Naming, S: Storage + Drop> Journal<J, S> {
     /// Waits until a record is on the disk. The first who waits brings all that was put to the disk, for all.
     pub fn settle<R: Wait>(&self, rt: &R, ticket: &Ticket<J>) -> Result<Receipt<J>, JournalFault>
         ensures place { IfOk result (λ r. r.place ≡ ticket.now.place) }
-        ensures stored { (bytes : List ℕ) → IsAt ticket.now.place bytes (log_in J.before ticket.now.history)
-            → IfOk result (λ r. IsStored ticket.now.place bytes (log_in J.before r.history)) }
+        ensures stored { IfOk result (λ r. Confirms J.before ticket.now r) }
     {
         let mut desk = self.desk.lock(rt);
         for _ in rt.forever() {

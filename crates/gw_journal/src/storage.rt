@@ -1,6 +1,6 @@
 //! What keeps the records of a journal.
 ghost use Rattle.std.specs.Prelude.{◌++◌, [], List, ℕ, OnOk, IfErr};
-ghost use Rattle.gw_journal.specs.Logs.{records_of};
+ghost use Rattle.gw_journal.specs.Logs.{AreFit, records_of};
 ghost use Rattle.gw_journal.specs.declared.fault.JournalFault.{JournalFault};
 
 use crate::fault::JournalFault;
@@ -16,8 +16,9 @@ pub trait Storage {
     /// A call from the one to the other answered with this fault.
     ghost fails: { Self → Self → JournalFault → Type 0 };
 
-    /// Puts a batch after the others. At `Ok` what was pending counts, and the batch is pending.
+    /// Puts a batch after the others, each record of 1 to 2,147,483,648 bytes. At `Ok` what was pending counts, and the batch is pending.
     fn put(&mut self, batch: &[Vec<u8>]) -> Result<(), JournalFault>
+        requires fit { AreFit (records_of batch.now) }
         ensures ok { (these those : List (List ℕ)) → stands self.old these those →
             OnOk result (stands self.new (these ++ those) (records_of batch.now)) }
         ensures any_moment { (these those : List (List ℕ)) → stands self.old these those →

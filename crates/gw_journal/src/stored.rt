@@ -8,6 +8,8 @@ fn fault_of(fault: LogFault) -> JournalFault {
     match fault {
         LogFault::Memory => JournalFault::Memory,
         LogFault::Device | LogFault::Damaged { .. } => JournalFault::Disk,
+        LogFault::Empty => JournalFault::Empty,
+        LogFault::TooLong => JournalFault::TooLong,
         _ => JournalFault::Full,
     }
 }

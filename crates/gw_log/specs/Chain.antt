@@ -169,6 +169,19 @@ pub record HasHead (id number before : ℕ) (file : List ℕ) : Type 0 where
   pub its_number : head.number ≡ number
   pub its_before : head.before ≡ before
 
+-- the file of this number has no byte, and the next one has
+pub record IsGap (number : ℕ) (files : Files) : Type 0 where
+  pub none : files number ≡ []
+  pub next : files (number + 1) ≢ []
+
+-- the first file begins with a head of this log and of its own number, which follows on the file that was before it
+abbrev pub HasFirst : ℕ → Files → Origin → Type 0
+HasFirst id files from = HasHead id from.number from.before (files from.number)
+
+-- each file behind it, up to the last, with one that says how long the file before it is
+abbrev pub AreInPlace : ℕ → Files → Origin → Head → Type 0
+AreInPlace id files from last = (n : ℕ) → from.number ≤ n → n < last.number → HasHead id (n + 1) (length (files n)) (files (n + 1))
+
 -- A log goes on from its second file: the records of the first are gone
 pub record IsFewer (from : Origin) (records : List (List ℕ)) (to : Origin) (kept : List (List ℕ)) : Type 0 where
   pub gone : List (List ℕ)

@@ -58,6 +58,14 @@ pub record LeavesOnly {D : Type 0} (moment : D → ℕ) (left_since : D → ℕ 
   -- for a run that began earlier
   pub before : (t : ℕ) (c : Files) → t ≤ moment old → left_since new t c → left_since old t c ⊎ P c
 
+-- A crash at any moment since old leaves the file of this number as P says, and the others as they were
+abbrev pub LeavesChanged : {D : Type 0} → (D → Files) → (D → ℕ) → (D → ℕ → Files → Type 0) → (old new : D) → ℕ → (List ℕ → Type 0) → Type 0
+LeavesChanged seen moment left_since old new number P = LeavesOnly moment left_since old new (Changes number P (seen old))
+
+-- the same where old's files are all on the disk, whatever crash comes
+abbrev pub LeavesOf : {D : Type 0} → (D → Files) → (D → Files → Type 0) → (D → ℕ) → (D → ℕ → Files → Type 0) → (old new : D) → ℕ → (List ℕ → Type 0) → Type 0
+LeavesOf seen may_leave moment left_since old new number P = Only (seen old) (may_leave old) → LeavesChanged seen moment left_since old new number P
+
 -- no file has a byte but from the first number to the last
 abbrev pub AreWithin : (first last : ℕ) → Files → Type 0
 AreWithin first last files = (number : ℕ) → files number ≢ [] → (first ≤ number) × (number ≤ last)

@@ -1,8 +1,10 @@
 -- What a file of a log has: the records that are synced.
-use Rattle.std.specs.Prelude.{◌≡◌, ◌≢◌, ◌⊎◌, ⊤, ℕ, ◌<◌, ◌^◌, ◌+◌, List, [], ◌∷◌, ◌++◌, length, drop}
+use Rattle.std.specs.Prelude.{◌≡◌, ◌≢◌, ◌⊎◌, ⊤, ℕ, ◌<◌, ◌^◌, ◌+◌, List, [], ◌∷◌, ◌++◌, length, drop, Result, IsErrOf}
 use Rattle.std.specs.Int.{w32, to_be_bytes}
 use Rattle.std.specs.List.{AllByRecursion}
 use Rattle.sha2.specs.Sha256.{sha256}
+use Rattle.gw_log.specs.declared.fault.LogFault.{LogFault}
+use Rattle.gw_log.specs.declared.fault.LogFault.TheVariants.{Damaged}
 use Rattle.gw_log.specs.Disk.{Files, Changes}
 
 -- a record behind its digest (SHA-256, FIPS 180-4)
@@ -54,6 +56,10 @@ pub record IsDamagedAt (at : ℕ) (file : List ℕ) : Type 0 where
 pub record HasRecordAt (at : ℕ) (bytes file : List ℕ) : Type 0 where
   pub whole : drop at file ≡ 1 ∷ body bytes ++ drop (at + length (1 ∷ body bytes)) file
   pub short : length (item bytes) < 2 ^ 32
+
+-- where the answer is `Damaged`, this holds
+abbrev pub OnDamaged : {T : Type 0} → Result T LogFault → Type 0 → Type 0
+OnDamaged result P = (segment at : ℕ) → IsErrOf result (Damaged segment at) → P
 
 -- the file has these records or those
 abbrev pub HasEither : List (List ℕ) → List (List ℕ) → List ℕ → Type 0

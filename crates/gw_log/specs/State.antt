@@ -62,6 +62,10 @@ pub record IsRead {D : Type 0} (seen : D → Files) (r : ReaderState D) (records
   pub here : r.at ≡ length (blocks records)
   pub small : length (seen r.disk r.number) < 2 ^ 63
 
+-- one record more was read
+abbrev pub ReadsOn : {D : Type 0} → (D → Files) → ReaderState D → ReaderState D → List ℕ → Type 0
+ReadsOn seen old new bytes = (before : List (List ℕ)) → IsRead seen old before → IsRead seen new (before ++ bytes ∷ [])
+
 -- the bytes of rows in memory
 abbrev pub records_of : List (Vec ℕ Global) → List (List ℕ)
 records_of = map (λ v. v.items)

@@ -1,6 +1,6 @@
 //! What holds of the definitions.
-ghost use Rattle.std.specs.Prelude.{◌≡◌, ◌≢◌, ◌+◌, ◌<◌, ◌≤◌, [], List, ℕ, length};
-ghost use Rattle.gw_log.specs.Chain.{Origin, IsLog, HasHead};
+ghost use Rattle.std.specs.Prelude.{◌≡◌, ◌<◌, List, ℕ};
+ghost use Rattle.gw_log.specs.Chain.{Origin, IsLog, HasHead, IsGap, HasFirst, AreInPlace};
 ghost use Rattle.gw_log.specs.Disk.{Files};
 ghost use Rattle.gw_log.specs.File.{Has, IsDamagedAt};
 
@@ -18,15 +18,15 @@ pub fn damaged_or_read()
 /// In a log a file that is missing, or has no byte, is one of those that may be gone, if the next one is there.
 pub fn no_gap()
     ensures { (id : ℕ) (files : Files) (from : Origin) (records : List (List ℕ)) (n : ℕ) →
-        IsLog id files from records → files n ≡ [] → files (n + 1) ≢ [] → n < from.number }
+        IsLog id files from records → IsGap n files → n < from.number }
 {}
 
 /// Each file of a log begins with a head of this log and of its own number, which says how long the file before it is.
 pub fn in_place()
     ensures first { (id : ℕ) (files : Files) (from : Origin) (records : List (List ℕ)) →
-        IsLog id files from records → HasHead id from.number from.before (files from.number) }
-    ensures next { (id : ℕ) (files : Files) (from : Origin) (records : List (List ℕ)) (is : IsLog id files from records) (n : ℕ) →
-        from.number ≤ n → n < is.head.number → HasHead id (n + 1) (length (files n)) (files (n + 1)) }
+        IsLog id files from records → HasFirst id files from }
+    ensures next { (id : ℕ) (files : Files) (from : Origin) (records : List (List ℕ)) (is : IsLog id files from records) →
+        AreInPlace id files from is.head }
 {}
 
 /// A file has one head. So one that was exchanged, copied under another number, or is of another log, is out of place.

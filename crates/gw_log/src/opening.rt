@@ -1,11 +1,11 @@
 //! What is found in a folder when a log is opened, and what a crash left there that has to go.
 ghost use Rattle.std.specs.Prelude.{◌≡◌, ◌≢◌, ◌+◌, ◌<◌, ◌≤◌, [], ℕ, IfOk, OnOk, IsErrOf, IsTrue, IsFalse};
 ghost use Rattle.gw_log.specs.Chain.{IsNoLog, LeavesLog};
-ghost use Rattle.gw_log.specs.Disk.{Only, LeavesOnly};
-ghost use Rattle.gw_log.specs.File.{Has, IsDamagedAt};
+ghost use Rattle.gw_log.specs.Disk.{Only};
+ghost use Rattle.gw_log.specs.File.{Has, IsDamagedAt, OnDamaged};
 ghost use Rattle.gw_log.specs.Opening.{BeginsAs, AreLinked, IsSealed};
 ghost use Rattle.gw_log.specs.State.{IsStaged, records_of};
-ghost use Rattle.gw_log.specs.own.Opens.{Reads, IsTrimmed, Finds, IsLastOf, IsTop, HasNoHead, IsNoLogOf, IsNoLogUpTo};
+ghost use Rattle.gw_log.specs.own.Opens.{Reads, LeavesTrimmed, Finds, IsLastOf, IsTop, HasNoHead, IsNoLogOf, IsNoLogUpTo};
 ghost use Rattle.gw_log.specs.own.Steps.{UpTo};
 
 use crate::disk::{Disk, DiskFault};
@@ -68,8 +68,7 @@ fn is_sealed(records: &[Vec<u8>]) -> bool
 fn head_of<D: Disk>(alloc: Global, disk: &mut D, id: u64, number: u64) -> Result<Place, LogFault>
     ensures begins { D.honest disk.new → IfOk result (λ p.
         BeginsAs id number p.first p.before p.oldest (D.seen disk.old number)) }
-    ensures damaged { D.honest disk.new → (segment at : ℕ) → IsErrOf result (LogFault.Damaged segment at) →
-        HasNoHead id number (D.seen disk.old number) }
+    ensures damaged { D.honest disk.new → OnDamaged result (HasNoHead id number (D.seen disk.old number)) }
     ensures reads { Reads D.seen D.may_leave D.moment D.left_since D.honest disk.old disk.new }
     ensures missing { IsErrOf result LogFault.Missing → ⊥ }
 {
@@ -104,8 +103,7 @@ fn linked<D: Disk>(
         BeginsAs id last p.first p.before p.oldest (D.seen disk.old last)) }
     ensures linked { D.honest disk.new → OnOk result (AreLinked id (D.seen disk.old) first last) }
     ensures there { IfOk result (λ p. first ≤ p.oldest) }
-    ensures damaged { D.honest disk.new → (segment at : ℕ) → IsErrOf result (LogFault.Damaged segment at) →
-        IsNoLogOf id first last (D.seen disk.old) }
+    ensures damaged { D.honest disk.new → OnDamaged result (IsNoLogOf id first last (D.seen disk.old)) }
     ensures reads { Reads D.seen D.may_leave D.moment D.left_since D.honest disk.old disk.new }
     ensures missing { IsErrOf result LogFault.Missing → ⊥ }
 {
@@ -147,8 +145,7 @@ fn last_born<D: Disk>(
     ensures near { IfOk result (λ r. r.0 ≤ top) }
     ensures next { IfOk result (λ r. top ≤ r.0 + 1) }
     ensures open { IfOk result (λ r. IsSealed (records_of r.1.items) → ⊥) }
-    ensures damaged { D.honest disk.new → (segment at : ℕ) → IsErrOf result (LogFault.Damaged segment at) →
-        IsNoLogUpTo first top (D.seen disk.old) }
+    ensures damaged { D.honest disk.new → OnDamaged result (IsNoLogUpTo first top (D.seen disk.old)) }
     ensures reads { Reads D.seen D.may_leave D.moment D.left_since D.honest disk.old disk.new }
     ensures missing { IsErrOf result LogFault.Missing → ⊥ }
 {
@@ -181,8 +178,7 @@ fn find<D: Disk>(alloc: Global, disk: &mut D, id: u64) -> Result<Found, LogFault
     ensures top { D.honest disk.new → IfOk result (λ f. IsTop (D.seen disk.old) f.number f.top) }
     ensures open { IfOk result (λ f. IsSealed (records_of f.records.items) → ⊥) }
     ensures missing { D.honest disk.new → IsErrOf result LogFault.Missing → (n : ℕ) → D.seen disk.old n ≡ [] }
-    ensures damaged { D.honest disk.new → (segment at : ℕ) → IsErrOf result (LogFault.Damaged segment at) →
-        IsNoLog id (D.seen disk.old) }
+    ensures damaged { D.honest disk.new → OnDamaged result (IsNoLog id (D.seen disk.old)) }
     ensures reads { Reads D.seen D.may_leave D.moment D.left_since D.honest disk.old disk.new }
 {
     let (least, top) = disk.ends()?;
@@ -208,8 +204,7 @@ fn trim<D: Disk>(disk: &mut D, last: u64, top: u64) -> Result<(), DiskFault>
     ensures others { OnOk result ((m : ℕ) → m ≢ top → D.seen disk.new m ≡ D.seen disk.old m) }
     ensures gone { OnOk result (top ≢ last → D.seen disk.new top ≡ []) }
     ensures kept { OnOk result (top ≡ last → D.seen disk.new top ≡ D.seen disk.old top) }
-    ensures any_moment { Only (D.seen disk.old) (D.may_leave disk.old) →
-        LeavesOnly D.moment D.left_since disk.old disk.new (IsTrimmed last top (D.seen disk.old)) }
+    ensures any_moment { LeavesTrimmed D.seen D.may_leave D.moment D.left_since last top disk.old disk.new }
     ensures back { D.honest disk.new → D.honest disk.old }
 {
     if top == last {
@@ -237,10 +232,8 @@ pub(crate) fn open_folder<D: Disk>(alloc: Global, disk: &mut D, id: u64) -> Resu
     ensures behind { D.honest disk.new → IfOk result (λ f. IsTop (D.seen disk.old) f.number f.top) }
     ensures open { IfOk result (λ f. IsSealed (records_of f.records.items) → ⊥) }
     ensures any_moment { D.honest disk.new → LeavesLog D.seen D.moment D.left_since id disk.old disk.new }
-    ensures damaged { D.honest disk.new → (segment at : ℕ) → IsErrOf result (LogFault.Damaged segment at) →
-        IsNoLog id (D.seen disk.old) }
-    ensures untouched { (segment at : ℕ) → IsErrOf result (LogFault.Damaged segment at) →
-        Only (D.seen disk.old) (D.may_leave disk.new) }
+    ensures damaged { D.honest disk.new → OnDamaged result (IsNoLog id (D.seen disk.old)) }
+    ensures untouched { OnDamaged result (Only (D.seen disk.old) (D.may_leave disk.new)) }
     ensures missing { D.honest disk.new → IsErrOf result LogFault.Missing → (n : ℕ) → D.seen disk.old n ≡ [] }
     ensures back { D.honest disk.new → D.honest disk.old }
 {

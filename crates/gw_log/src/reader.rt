@@ -26,10 +26,10 @@ impl<D: Disk> Model for Reader<D> {
 }
 
 impl<D: Disk> Reader<D> {
-    ghost use Rattle.std.specs.Prelude.{◌≡◌, ◌≤◌, ◌++◌, ◌∷◌, [], ℕ, List, drop};
-    ghost use Rattle.std.specs.Prelude.{IfOk, IfSome, IfNone, IsErrOf, OnErr};
-    ghost use Rattle.gw_log.specs.File.{HasNoRecord};
-    ghost use Rattle.gw_log.specs.State.{IsRead};
+    ghost use Rattle.std.specs.Prelude.{◌≡◌, ◌≤◌, drop};
+    ghost use Rattle.std.specs.Prelude.{IfOk, IfSome, IfNone, OnErr};
+    ghost use Rattle.gw_log.specs.File.{HasNoRecord, OnDamaged};
+    ghost use Rattle.gw_log.specs.State.{ReadsOn};
 
     /// Reads from this offset on, where a record begins, up to another, where one ends.
     pub fn at(alloc: Global, disk: D, number: u64, at: usize, upto: usize) -> Reader<D>
@@ -46,11 +46,11 @@ impl<D: Disk> Reader<D> {
 
     /// The next record. `None`: there is none before the end that was named.
     pub fn next(&mut self) -> Result<Option<Vec<u8>>, LogFault>
-        ensures some { D.honest self.new.disk → (before : List (List ℕ)) → IsRead D.seen self.old before →
-            IfOk result (λ found. IfSome found (λ r. IsRead D.seen self.new (before ++ r.items ∷ []))) }
+        ensures some { D.honest self.new.disk →
+            IfOk result (λ found. IfSome found (λ r. ReadsOn D.seen self.old self.new r.items)) }
         ensures none { IfOk result (λ found. IfNone found (self.old.upto ≤ self.old.at)) }
-        ensures damaged { D.honest self.new.disk → (segment at : ℕ) → IsErrOf result (LogFault.Damaged segment at) →
-            HasNoRecord (drop self.old.at (D.seen self.old.disk self.old.number)) }
+        ensures damaged { D.honest self.new.disk →
+            OnDamaged result (HasNoRecord (drop self.old.at (D.seen self.old.disk self.old.number))) }
         ensures err { OnErr result (self.new.at ≡ self.old.at) }
         ensures seen { D.seen self.new.disk ≡ D.seen self.old.disk }
         ensures number { self.new.number ≡ self.old.number }

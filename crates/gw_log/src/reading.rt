@@ -1,10 +1,10 @@
 //! What is read of a file.
 ghost use Rattle.std.specs.Prelude.{◌≡◌, ◌↔◌, ◌<◌, ◌^◌, ◌++◌, ◌∷◌, [], List, ℕ};
-ghost use Rattle.std.specs.Prelude.{length, take, drop, Some, IfOk, IfErr, IfSome, IfNone, IsErrOf, IsTrue, OnOk};
+ghost use Rattle.std.specs.Prelude.{length, drop, Some, IfOk, IfErr, IfSome, IfNone, IsErrOf, IsTrue, OnOk};
 ghost use Rattle.std.specs.Int.{w32, to_be_bytes};
 ghost use Rattle.sha2.specs.Sha256.{sha256};
-ghost use Rattle.gw_log.specs.File.{item, body, IsUnsynced, HasNoRecord, HasRecordAt};
-ghost use Rattle.gw_log.specs.own.Steps.{Begins, BeginsItem, HasNoItem, UpTo, Refuses};
+ghost use Rattle.gw_log.specs.File.{item, body, IsUnsynced, HasNoRecord, HasRecordAt, OnDamaged};
+ghost use Rattle.gw_log.specs.own.Steps.{Begins, BeginsItem, HasNoItem, IsFront, UpTo, Refuses};
 ghost use Rattle.gw_log.specs.own.Opens.{Reads};
 ghost use Rattle.gw_log.specs.State.{records_of};
 
@@ -143,9 +143,8 @@ fn long_record<D: Disk>(
     front: &[u8],
 ) -> Result<Vec<u8>, LogFault>
     ensures ok { D.honest disk.new → IfOk result (λ r. HasRecordAt at r.items (D.seen disk.old number)) }
-    ensures damaged { D.honest disk.new → front.now ≡ take 4096 (drop at (D.seen disk.old number)) →
-        (segment place : ℕ) → IsErrOf result (LogFault.Damaged segment place) →
-        HasNoRecord (drop at (D.seen disk.old number)) }
+    ensures damaged { D.honest disk.new → IsFront at front.now (D.seen disk.old number) →
+        OnDamaged result (HasNoRecord (drop at (D.seen disk.old number))) }
     ensures place { (segment place : ℕ) → IsErrOf result (LogFault.Damaged segment place) → segment ≡ number }
     ensures seen { D.seen disk.new ≡ D.seen disk.old }
     ensures missing { IsErrOf result LogFault.Missing → ⊥ }
@@ -176,8 +175,7 @@ pub(crate) fn record_at<D: Disk>(
     at: usize,
 ) -> Result<Vec<u8>, LogFault>
     ensures ok { D.honest disk.new → IfOk result (λ r. HasRecordAt at r.items (D.seen disk.old number)) }
-    ensures damaged { D.honest disk.new → (segment place : ℕ) →
-        IsErrOf result (LogFault.Damaged segment place) → HasNoRecord (drop at (D.seen disk.old number)) }
+    ensures damaged { D.honest disk.new → OnDamaged result (HasNoRecord (drop at (D.seen disk.old number))) }
     ensures place { (segment place : ℕ) → IsErrOf result (LogFault.Damaged segment place) → segment ≡ number }
     ensures seen { D.seen disk.new ≡ D.seen disk.old }
     ensures missing { IsErrOf result LogFault.Missing → ⊥ }

@@ -1,6 +1,6 @@
 //! A segment of a log: the records of one file.
 ghost use Rattle.std.specs.Prelude.{◌≡◌, ◌<◌, ◌≤◌, ◌≢◌, [], ℕ, length, drop, IfOk, IsErrOf, OnOk};
-ghost use Rattle.gw_log.specs.Disk.{Changes, Only, LeavesOnly};
+ghost use Rattle.gw_log.specs.Disk.{Only, LeavesOnly, LeavesOf};
 ghost use Rattle.gw_log.specs.File.{Has, KeepsRecords, IsDamagedAt};
 ghost use Rattle.gw_log.specs.State.{IsStaged, records_of};
 ghost use Rattle.gw_log.specs.own.Opens.{Reads};
@@ -46,9 +46,8 @@ pub(crate) fn read_all<D: Disk>(
     ensures seen { D.seen disk.new ≡ D.seen disk.old }
     ensures durable { Only (D.seen disk.old) (D.may_leave disk.old) →
         Only (D.seen disk.old) (D.may_leave disk.new) }
-    ensures any_moment { Only (D.seen disk.old) (D.may_leave disk.old) →
-        LeavesOnly D.moment D.left_since disk.old disk.new
-        (Changes number (λ file. file ≡ D.seen disk.old number) (D.seen disk.old)) }
+    ensures any_moment { LeavesOf D.seen D.may_leave D.moment D.left_since disk.old disk.new
+        number (λ file. file ≡ D.seen disk.old number) }
     ensures back { D.honest disk.new → D.honest disk.old }
     ensures later { D.faults disk.old ≤ D.faults disk.new }
     ensures failed { IsErrOf result DiskFault.Failed → D.faults disk.old < D.faults disk.new }
@@ -94,12 +93,13 @@ fn open_file<D: Disk>(
 }
 
 impl<D: Disk> Segment<D> {
-    ghost use Rattle.std.specs.Prelude.{◌≡◌, ◌≢◌, ◌⊎◌, ◌+◌, ◌<◌, ◌≤◌, ◌^◌, ◌∷◌, [], true, false, ℕ, List, length};
+    ghost use Rattle.std.specs.Prelude.{◌≡◌, ◌≢◌, ◌⊎◌, ◌+◌, ◌<◌, ◌≤◌, ◌^◌, ◌∷◌, [], true, false, ℕ, length};
     ghost use Rattle.std.specs.Prelude.{IfOk, IfErr, IsErrOf, OnOk, OnErr};
-    ghost use Rattle.gw_log.specs.Disk.{Changes, IsGone, LeavesOnly, Only};
+    ghost use Rattle.gw_log.specs.Disk.{Changes, LeavesOnly, Only};
     ghost use Rattle.gw_log.specs.File.{Has, HasEither, HasOrIs, KeepsRecords, IsDamagedAt};
     ghost use Rattle.gw_log.specs.State.{Stands, Secures, LeavesFile, records_of};
-    ghost use Rattle.gw_log.specs.own.Turns.{LeavesTurn, HasEnded, HasTurned};
+    ghost use Rattle.gw_log.specs.own.Turns.{IfAlone, LeavesTurn, Ends, Turned};
+    ghost use Rattle.gw_log.specs.own.Steps.{LeavesBegun, Spares, LeavesRemoved};
 
     /// The records of a file, of a disk that a crash may have left. It may crash too. After `Damaged` the file is as it was.
     pub fn open(
@@ -168,9 +168,8 @@ impl<D: Disk> Segment<D> {
         ensures stands { IfOk result (λ s. D.seen disk number ≡ [] →
             Stands D.seen D.may_leave s (records_of records.now) []) }
         ensures number { IfOk result (λ s. s.number ≡ number) }
-        ensures any_moment { IfOk result (λ s. D.seen disk number ≡ [] →
-            LeavesOnly D.moment D.left_since disk s.disk
-            (Changes number (HasEither [] (records_of records.now)) (D.seen disk))) }
+        ensures any_moment { IfOk result (λ s.
+            LeavesBegun D.seen D.moment D.left_since number (records_of records.now) disk s.disk) }
         ensures others { IfOk result (λ s. (other : ℕ) → other ≢ number → D.seen s.disk other ≡ D.seen disk other) }
         ensures back { IfOk result (λ s. D.honest s.disk → D.honest disk) }
     {
@@ -198,9 +197,7 @@ impl<D: Disk> Segment<D> {
         requires room { self.old.number < 2 ^ 63 }
         requires some { 1 ≤ length next.now }
         requires end { records_of end.now ≡ [] ∷ [] }
-        ensures ok { (these : List (List ℕ)) → Stands D.seen D.may_leave self.old these [] →
-            D.seen self.old.disk (self.old.number + 1) ≡ [] →
-            IfOk result (λ size. HasTurned D.seen D.may_leave self.old self.new size these (records_of next.now)) }
+        ensures ok { Turned D.seen D.may_leave self.old self.new (records_of next.now) result }
         ensures any_moment { LeavesTurn D.seen D.may_leave D.moment D.left_since
             self.old self.new (records_of next.now) }
         ensures number { self.new.number ≡ self.old.number }
@@ -219,12 +216,9 @@ impl<D: Disk> Segment<D> {
         requires room { self.old.number < 2 ^ 63 }
         requires some { 1 ≤ length next.now }
         requires end { records_of end.now ≡ [] ∷ [] }
-        ensures stands { (these : List (List ℕ)) → Stands D.seen D.may_leave self.old these [] →
-            D.seen self.old.disk (self.old.number + 1) ≡ [] →
-            OnOk result (Stands D.seen D.may_leave self.new (records_of next.now) []) }
-        ensures ended { (these : List (List ℕ)) → Stands D.seen D.may_leave self.old these [] →
-            D.seen self.old.disk (self.old.number + 1) ≡ [] →
-            OnOk result (HasEnded self.old.number these (D.seen self.old.disk) (D.seen self.new.disk)) }
+        ensures stands { IfAlone D.seen D.may_leave self.old (λ these.
+            OnOk result (Stands D.seen D.may_leave self.new (records_of next.now) [])) }
+        ensures ended { Ends D.seen D.may_leave self.old self.new result }
         ensures number { OnOk result (self.new.number ≡ self.old.number + 1) }
         ensures any_moment { LeavesTurn D.seen D.may_leave D.moment D.left_since
             self.old self.new (records_of next.now) }
@@ -239,14 +233,11 @@ impl<D: Disk> Segment<D> {
 
     /// Removes the file of another number.
     pub(crate) fn remove(&mut self, number: u64) -> Result<(), LogFault>
-        ensures stands { (these those : List (List ℕ)) → Stands D.seen D.may_leave self.old these those →
-            number ≢ self.old.number → OnOk result (Stands D.seen D.may_leave self.new these those) }
+        ensures stands { Spares D.seen D.may_leave number self.old self.new result }
         ensures removed { OnOk result (Changes number (λ file. file ≡ []) (D.seen self.old.disk) (D.seen self.new.disk)) }
         ensures number { self.new.number ≡ self.old.number }
         ensures err { OnErr result (self.new.broken ≡ true) }
-        ensures any_moment { (these those : List (List ℕ)) → Stands D.seen D.may_leave self.old these those →
-            LeavesOnly D.moment D.left_since self.old.disk self.new.disk
-            (Changes number (IsGone (D.seen self.old.disk number)) (D.seen self.old.disk)) }
+        ensures any_moment { LeavesRemoved D.seen D.may_leave D.moment D.left_since number self.old self.new }
         ensures back { D.honest self.new.disk → D.honest self.old.disk }
     {
         if self.broken {

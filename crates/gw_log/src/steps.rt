@@ -1,11 +1,9 @@
 //! Steps on the disk: a batch is added, a gate is opened, the end of a file is repaired.
 //!
 //! A record counts behind an open gate (1). A closed gate (0) stands behind the last one, on the disk before anything is written behind it.
-ghost use Rattle.std.specs.Prelude.{◌≡◌, ◌≢◌, ◌+◌, ◌<◌, ◌≤◌, ◌^◌, ◌++◌, [], List, ℕ, length, take, drop, OnOk, IsErrOf};
-ghost use Rattle.gw_log.specs.Disk.{Files, Changes, IsWritten, Torn, Cut, IsGone, After, Follows, Only, LeavesOnly};
-ghost use Rattle.gw_log.specs.File.{AreShort, Has, HasEither, HasOrIs};
-ghost use Rattle.gw_log.specs.State.{at_rest, IsStaged};
-ghost use Rattle.gw_log.specs.own.Steps.{UpTo};
+ghost use Rattle.std.specs.Prelude.{◌≡◌, ◌≢◌, ◌<◌, ◌≤◌, ◌^◌, [], ℕ, length, take, OnOk, IsErrOf};
+ghost use Rattle.gw_log.specs.Disk.{Files, Changes, IsWritten, Torn, Cut, IsGone, After, Follows, Only, LeavesOnly, LeavesOf};
+ghost use Rattle.gw_log.specs.own.Steps.{OpensGate, LeavesOpening, AddsBatch, LeavesAdding, BeginsFile, LeavesBeginning, Repairs, LeavesRepairing};
 
 use crate::disk::{Disk, DiskFault};
 use crate::writing::{OPEN, SHUT};
@@ -52,13 +50,8 @@ fn cut_synced<D: Disk>(disk: &mut D, number: u64, len: usize) -> Result<(), Disk
 
 /// Opens the gate of what is pending, and syncs.
 pub(crate) fn settle<D: Disk>(disk: &mut D, number: u64, end: usize) -> Result<(), DiskFault>
-    ensures ok { (reach : ℕ) (these those : List (List ℕ)) →
-        IsStaged D.seen D.may_leave disk.old number end reach these those → end ≢ reach →
-        OnOk result (IsStaged D.seen D.may_leave disk.new number reach reach (these ++ those) []) }
-    ensures any_moment { (reach : ℕ) (these those : List (List ℕ)) →
-        IsStaged D.seen D.may_leave disk.old number end reach these those → end ≢ reach →
-        LeavesOnly D.moment D.left_since disk.old disk.new
-        (Changes number (HasOrIs these (these ++ those)) (D.seen disk.old)) }
+    ensures ok { OpensGate D.seen D.may_leave number end disk.old disk.new result }
+    ensures any_moment { LeavesOpening D.seen D.may_leave D.moment D.left_since number end disk.old disk.new }
     ensures others { OnOk result
         ((other : ℕ) → other ≢ number → D.seen disk.new other ≡ D.seen disk.old other) }
     ensures back { D.honest disk.new → D.honest disk.old }
@@ -78,14 +71,8 @@ pub(crate) fn put<D: Disk>(
     bytes: &[u8],
 ) -> Result<(), DiskFault>
     requires { reach < 2 ^ 60 }
-    ensures ok { (these those more : List (List ℕ)) →
-        IsStaged D.seen D.may_leave disk.old number end reach these those →
-        bytes.now ≡ drop 1 (at_rest more) → AreShort more →
-        OnOk result (IsStaged D.seen D.may_leave disk.new number reach (reach + length bytes.now) (these ++ those) more) }
-    ensures any_moment { (these those : List (List ℕ)) →
-        IsStaged D.seen D.may_leave disk.old number end reach these those →
-        LeavesOnly D.moment D.left_since disk.old disk.new
-        (Changes number (HasEither these (these ++ those)) (D.seen disk.old)) }
+    ensures ok { AddsBatch D.seen D.may_leave number end reach bytes.now disk.old disk.new result }
+    ensures any_moment { LeavesAdding D.seen D.may_leave D.moment D.left_since number end reach disk.old disk.new }
     ensures others { OnOk result
         ((other : ℕ) → other ≢ number → D.seen disk.new other ≡ D.seen disk.old other) }
     ensures back { D.honest disk.new → D.honest disk.old }
@@ -106,9 +93,8 @@ pub(crate) fn remove<D: Disk>(disk: &mut D, number: u64) -> Result<(), DiskFault
     ensures only { Only (D.seen disk.old) (D.may_leave disk.old) →
         OnOk result (Only (D.seen disk.new) (D.may_leave disk.new)) }
     ensures removed { OnOk result (Changes number (λ file. file ≡ []) (D.seen disk.old) (D.seen disk.new)) }
-    ensures any_moment { Only (D.seen disk.old) (D.may_leave disk.old) →
-        LeavesOnly D.moment D.left_since disk.old disk.new
-        (Changes number (IsGone (D.seen disk.old number)) (D.seen disk.old)) }
+    ensures any_moment { LeavesOf D.seen D.may_leave D.moment D.left_since disk.old disk.new
+        number (IsGone (D.seen disk.old number)) }
     ensures back { D.honest disk.new → D.honest disk.old }
 {
     disk.remove(number)?;
@@ -118,13 +104,8 @@ pub(crate) fn remove<D: Disk>(disk: &mut D, number: u64) -> Result<(), DiskFault
 
 /// Begins a file with these records, whose bytes are given but for the first gate. It has no byte yet.
 pub(crate) fn begin<D: Disk>(disk: &mut D, number: u64, bytes: &[u8]) -> Result<(), DiskFault>
-    ensures ok { (records : List (List ℕ)) → Only (D.seen disk.old) (D.may_leave disk.old) →
-        D.seen disk.old number ≡ [] → bytes.now ≡ drop 1 (at_rest records) → AreShort records → 1 ≤ length records →
-        OnOk result (IsStaged D.seen D.may_leave disk.new number (length bytes.now) (length bytes.now) records []) }
-    ensures any_moment { (records : List (List ℕ)) → Only (D.seen disk.old) (D.may_leave disk.old) →
-        D.seen disk.old number ≡ [] → bytes.now ≡ drop 1 (at_rest records) → AreShort records → 1 ≤ length records →
-        LeavesOnly D.moment D.left_since disk.old disk.new
-        (Changes number (HasEither [] records) (D.seen disk.old)) }
+    ensures ok { BeginsFile D.seen D.may_leave number bytes.now disk.old disk.new result }
+    ensures any_moment { LeavesBeginning D.seen D.may_leave D.moment D.left_since number bytes.now disk.old disk.new }
     ensures others { OnOk result
         ((other : ℕ) → other ≢ number → D.seen disk.new other ≡ D.seen disk.old other) }
     ensures back { D.honest disk.new → D.honest disk.old }
@@ -138,13 +119,8 @@ pub(crate) fn begin<D: Disk>(disk: &mut D, number: u64, bytes: &[u8]) -> Result<
 
 /// Cuts off what stands behind the records, which end here, and closes the gate there.
 pub(crate) fn repair<D: Disk>(disk: &mut D, number: u64, end: usize) -> Result<(), DiskFault>
-    ensures repaired { (records : List (List ℕ)) →
-        Only (D.seen disk.old) (D.may_leave disk.old) → UpTo (D.seen disk.old number) end records →
-        OnOk result (IsStaged D.seen D.may_leave disk.new number end end records []) }
-    ensures any_moment { (records : List (List ℕ)) →
-        Only (D.seen disk.old) (D.may_leave disk.old) → UpTo (D.seen disk.old number) end records →
-        LeavesOnly D.moment D.left_since disk.old disk.new
-        (Changes number (Has records) (D.seen disk.old)) }
+    ensures repaired { Repairs D.seen D.may_leave number end disk.old disk.new result }
+    ensures any_moment { LeavesRepairing D.seen D.may_leave D.moment D.left_since number end disk.old disk.new }
     ensures others { OnOk result
         ((other : ℕ) → other ≢ number → D.seen disk.new other ≡ D.seen disk.old other) }
     ensures back { D.honest disk.new → D.honest disk.old }

@@ -1,6 +1,6 @@
 -- The steps in which a log is opened.
 use Rattle.std.specs.Prelude.{◌≡◌, ◌≢◌, ◌⊎◌, ℕ, ◌+◌, ◌<◌, ◌≤◌, List, []}
-use Rattle.gw_log.specs.Disk.{Files, LeavesOnly, AreEnds}
+use Rattle.gw_log.specs.Disk.{Files, Only, LeavesOnly, AreEnds}
 use Rattle.gw_log.specs.Chain.{Origin, IsLog, HasHead}
 
 -- A run of calls that only reads: the files are the same, and a crash leaves no more than before it, at any moment
@@ -14,6 +14,11 @@ pub record Reads {D : Type 0} (seen : D → Files) (may_leave : D → Files → 
 pub record IsTrimmed (last top : ℕ) (old c : Files) : Type 0 where
   pub others : (m : ℕ) → m ≢ top → c m ≡ old m
   pub here : (c top ≡ old top) ⊎ ((top ≢ last) × (c top ≡ []))
+
+-- a crash while it is removed leaves it there or not, where all files are on the disk
+abbrev pub LeavesTrimmed : {D : Type 0} → (D → Files) → (D → Files → Type 0) → (D → ℕ) → (D → ℕ → Files → Type 0) → (last top : ℕ) → (old new : D) → Type 0
+LeavesTrimmed seen may_leave moment left_since last top old new =
+    Only (seen old) (may_leave old) → LeavesOnly moment left_since old new (IsTrimmed last top (seen old))
 
 -- the folder's last file, what its head says, and the least number of a file are these
 pub record IsFound (id : ℕ) (files : Files) (from : Origin) (records : List (List ℕ)) (log : IsLog id files from records) (number first oldest least : ℕ) : Type 0 where

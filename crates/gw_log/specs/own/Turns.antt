@@ -1,5 +1,5 @@
 -- How a log goes on to its next file.
-use Rattle.std.specs.Prelude.{◌≡◌, ◌≢◌, ◌⊎◌, false, ℕ, ◌+◌, List, [], ◌∷◌, ◌++◌}
+use Rattle.std.specs.Prelude.{◌≡◌, ◌≢◌, ◌⊎◌, false, ℕ, ◌+◌, List, [], ◌∷◌, ◌++◌, Result, IfOk, OnOk}
 use Rattle.gw_log.specs.Disk.{Files, LeavesOnly}
 use Rattle.gw_log.specs.File.{blocks, AreShort, Has, HasEither}
 use Rattle.gw_log.specs.State.{SegmentState, IsStaged, Stands}
@@ -23,11 +23,22 @@ pub record HasTurned {D : Type 0} (seen : D → Files) (may_leave : D → Files 
   pub begun : IsStaged seen may_leave new.disk (old.number + 1) size size next []
   pub ended : HasEnded old.number these (seen old.disk) (seen new.disk)
 
+-- whatever records a segment has, with none pending, and no byte in the next file
+abbrev pub IfAlone : {D : Type 0} → (D → Files) → (D → Files → Type 0) → SegmentState D → (List (List ℕ) → Type 0) → Type 0
+IfAlone seen may_leave old P = (these : List (List ℕ)) → Stands seen may_leave old these [] → seen old.disk (old.number + 1) ≡ [] → P these
+
+-- it ended its file at `Ok`
+abbrev pub Ends : {D T E : Type 0} → (D → Files) → (D → Files → Type 0) → SegmentState D → SegmentState D → Result T E → Type 0
+Ends seen may_leave old new result = IfAlone seen may_leave old (λ these. OnOk result (HasEnded old.number these (seen old.disk) (seen new.disk)))
+
+-- it also began the next one with these records, which is as long as the answer
+abbrev pub Turned : {D E : Type 0} → (D → Files) → (D → Files → Type 0) → SegmentState D → SegmentState D → List (List ℕ) → Result ℕ E → Type 0
+Turned seen may_leave old new next result = IfAlone seen may_leave old (λ these. IfOk result (λ size. HasTurned seen may_leave old new size these next))
+
 -- a crash at any moment since then leaves a file that is being ended, and the next one begun
 abbrev pub LeavesTurn : {D : Type 0} → (D → Files) → (D → Files → Type 0) → (D → ℕ) → (D → ℕ → Files → Type 0) → SegmentState D → SegmentState D → List (List ℕ) → Type 0
 LeavesTurn seen may_leave moment left_since old new next =
-    (these : List (List ℕ)) → Stands seen may_leave old these [] → seen old.disk (old.number + 1) ≡ []
-    → LeavesOnly moment left_since old.disk new.disk (Turns old.number these next (seen old.disk))
+    IfAlone seen may_leave old (λ these. LeavesOnly moment left_since old.disk new.disk (Turns old.number these next (seen old.disk)))
 
 -- the head of the file behind that of a log, as a batch
 pub record IsNext {D : Type 0} (s : LogState D) (oldest : ℕ) (batch : List (List ℕ)) : Type 0 where
