@@ -1,1 +1,2 @@
 pub mod Stamped
+pub mod Passed

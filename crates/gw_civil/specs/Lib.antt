@@ -1,1 +1,2 @@
 pub mod Civil
+pub mod own

@@ -12,8 +12,8 @@ pub trait FromCivil: Sized {
     fn from_civil(at: &DateTime) -> Option<Self>;
 }
 
-// A number below 100 in two digits.
-fn two(n: u16) -> [u8; 2]
+/// A number below 100 in two digits.
+pub(crate) fn two(n: u16) -> [u8; 2]
     requires { n < 100 }
     ensures value { result ≡ two n }
     ensures first { IsDigit (slice_index result 0) }

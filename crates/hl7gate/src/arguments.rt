@@ -210,6 +210,24 @@ const FORMS: &[Form] = &[
         optional: &[("ARGUMENT", "A plan's path, or a receiver's name")],
         options: &[("json", "", "Prints the status as JSON")],
     },
+    Form {
+        name: "log",
+        about: "Checks the log that is kept in a folder, and prints a line for each record, or one message",
+        words: &[("FOLDER", "The folder in which the log is kept")],
+        optional: &[],
+        options: &[
+            (
+                "place",
+                "N",
+                "Prints the message that was accepted at this place, without a frame",
+            ),
+            (
+                "values",
+                "",
+                "Prints messages and the texts of refusals too: they may be a patient's",
+            ),
+        ],
+    },
 ];
 
 /// A word that a command needs, or may have.

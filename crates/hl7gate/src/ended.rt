@@ -9,6 +9,8 @@ use std::alloc::{AllocError, AllocFailed};
 pub(crate) enum Ended<'a> {
     /// The digits of the time stamp aren't fourteen.
     Stamp,
+    /// The place isn't a number.
+    Place,
     /// The word isn't a number from 1 to 1,000.
     Count { name: &'static str },
     /// The address can't be listened on.
@@ -25,6 +27,8 @@ pub(crate) enum Ended<'a> {
     Unanswered { path: &'a str },
     /// The file of a spool is damaged at this byte.
     Damaged { file: String, at: usize },
+    /// The log of a folder can't be read, or is damaged; this is printed.
+    Unlisted { said: String },
     /// Standard input isn't a message.
     Message { fault: ReadFault },
     /// The message breaks its profile.

@@ -15,6 +15,7 @@ mod hands;
 mod heap;
 mod heard;
 mod identity;
+mod listing;
 mod maps;
 mod outcome;
 mod plans;

@@ -4,9 +4,11 @@ use crate::contents::{map, plan, profile};
 use crate::ended::Ended;
 use crate::explain::explain;
 use crate::identity::identity;
+use crate::listing::log;
 use crate::maps::{check, read_profile, translate};
 use crate::plans::run;
 use crate::report::{DONE, USAGE, print_if_none, status_if};
+use crate::runtime::Runtime;
 use crate::sample::sample;
 use crate::stamps::stamp_of;
 use clap::ArgMatches;
@@ -48,13 +50,7 @@ fn ran<'a, R: Files + Clock + AllocGlobal, I: Read, O: Write, E: Write + IsTermi
 }
 
 /// Does the command of these words, and answers the status.
-pub(crate) fn command<
-    'a,
-    R: Files + Clock + AllocGlobal,
-    I: Read,
-    O: Write + IsTerminal,
-    E: Write + IsTerminal,
->(
+pub(crate) fn command<'a, R: Runtime, I: Read, O: Write + IsTerminal, E: Write + IsTerminal>(
     rt: &R,
     words: &ArgMatches<'a>,
     input: &mut I,
@@ -73,6 +69,7 @@ pub(crate) fn command<
         Some(("profile", words)) => profile(rt, words, output),
         Some(("map", words)) => map(rt, words, output),
         Some(("plan", words)) => plan(rt, words, output, errors),
+        Some(("log", words)) => log(rt, words, output),
         _ => Ok(USAGE),
     }
 }

@@ -102,6 +102,10 @@ pub(crate) fn tell<E: Write>(errors: &mut E, ended: &Ended<'_>) -> u8 {
             let _ = writeln!(errors, "error: the value of '--stamp' is fourteen digits");
             USAGE
         }
+        Ended::Place => {
+            let _ = writeln!(errors, "error: the value of '--place' is a number");
+            USAGE
+        }
         Ended::Count { name } => {
             let _ = writeln!(errors, "error: {name} is a number from 1 to 1000");
             USAGE
@@ -151,6 +155,11 @@ pub(crate) fn tell<E: Write>(errors: &mut E, ended: &Ended<'_>) -> u8 {
                 errors,
                 "{file}: damaged at byte {at}; nothing was sent. Move this file away, and send again what it had"
             );
+            status
+        }
+        Ended::Unlisted { said } => {
+            let status = print_fault(errors, RunFault::Read);
+            let _ = writeln!(errors, "{said}");
             status
         }
         Ended::Message { fault } => print_message(errors, *fault),

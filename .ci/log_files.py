@@ -1,0 +1,104 @@
+"""The files of a gateway's log, made as crates/gw_log/README.md and crates/gw_due/README.md say, and not by the program."""
+import hashlib
+
+
+def number(value, size=8):
+    return value.to_bytes(size, "big")
+
+
+def text(value):
+    return number(len(value), 4) + value
+
+
+# Records, in files
+
+
+def block(record, gate=b"\x01"):
+    return gate + number(32 + len(record), 4) + hashlib.sha256(record).digest() + record
+
+
+def head(file, first, before, oldest=1, log=7, checkpoint=b""):
+    return b"".join(map(number, (file, first, before, oldest, log))) + checkpoint
+
+
+def open_file(head, records):
+    """The last file: it isn't ended."""
+    return b"".join(map(block, [head, *records])) + b"\0"
+
+
+def ended_file(head, records):
+    return open_file(head, [*records, b""])
+
+
+def pending(records):
+    """What stands behind the records of a file while a batch is pending, whose gate is closed."""
+    first, *others = records
+    return block(first, b"\0") + b"".join(map(block, others)) + b"\0"
+
+
+def name(file):
+    return f"{file:020}.segment"
+
+
+def chain(parts, first=1, start=0, before=0, oldest=1, log=7, checkpoints=None):
+    """The files of a log: of each part the records of one file, of which the last isn't ended. A checkpoint that isn't given is that of a log of no receiver."""
+    files = {}
+    for file, records in enumerate(parts, first):
+        its = head(file, start, before, oldest, log, (checkpoints or {}).get(file, EMPTY))
+        is_last = file == first + len(parts) - 1
+        files[name(file)] = (open_file if is_last else ended_file)(its, records)
+        start, before = start + len(records), len(files[name(file)])
+    return files
+
+
+# What a checkpoint is of a log that names no receiver: its next place, no plan, no message, and three numbers that are 0
+EMPTY = bytes(8) + b"\0" + b"\0" + bytes(8) + bytes(8) + bytes(4)
+
+
+# Events
+
+
+def event(time, tag, rest):
+    return number(time) + bytes([tag]) + rest
+
+
+def planned(time, plan):
+    return event(time, 1, text(plan))
+
+
+def accepted(time, message, to, content):
+    return event(time, 2, number(message) + number(len(to), 4) + b"".join(number(it, 4) for it in to) + text(content))
+
+
+def again(time, receiver, place):
+    return event(time, 3, number(receiver, 4) + number(place))
+
+
+def passed(time, receiver, place, how):
+    return event(time, 4, number(receiver, 4) + number(place) + how)
+
+
+TAKEN, SKIPPED = b"\x00", b"\x02"
+
+
+def refused(code, reason):
+    return b"\x01" + number(code, 4) + text(reason)
+
+
+def named(time, receiver, its, address):
+    return event(time, 5, number(receiver, 4) + text(its) + text(address))
+
+
+def margin(time, below):
+    return event(time, 6, number(below))
+
+
+def retired(time, below):
+    return event(time, 7, number(below))
+
+
+def state(next_place, receivers, plan=None, last=None, below=0, oldest=0):
+    """A checkpoint: receivers by their number, name and address, for which nothing is left."""
+    perhaps = (b"\x00" if it is None else b"\x01" + number(it) for it in (plan, last))
+    each = (number(it, 4) + text(its) + text(address) + number(0) * 3 for it, its, address in receivers)
+    return number(next_place) + b"".join(perhaps) + number(below) + number(oldest) + number(len(receivers), 4) + b"".join(each)

@@ -1,0 +1,2 @@
+-- What the crate's own functions say: no public contract rests on it.
+pub mod Times
