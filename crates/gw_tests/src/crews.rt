@@ -4,7 +4,7 @@ use crate::locked::replies;
 use crate::streams::{Device, Ran};
 use crate::worked::{ARRIVED, admitted, archive};
 use gw_crew::{Door, Note, Pause, Phase, Solo, courier, cut, worker};
-use gw_gate::{Entry, Event, Reply};
+use gw_gate::{Event, Reply};
 use gw_plan::Plan;
 use gw_stream::{Counts, Reads, RunFault, Writes};
 use std::alloc::Global;
@@ -14,12 +14,9 @@ use std::test::Fail;
 /// What the receiver is sent.
 pub(crate) const SENT: &[u8] = b"\x0bMSH|^~\\&||||||||7\rPID||||||||2\r\x1c\r";
 
-/// Its acknowledgment, one of another message and one that is none.
+/// Its acknowledgment.
 pub(crate) const ACKED: &[u8] =
     b"\x0bMSH|^~\\&|GW|H2|LAB|H1|20240102030406||ACK^A01^ACK|G1|P|2.5.1\rMSA|AA|7\r\x1c\r";
-
-const OTHER: &[u8] =
-    b"\x0bMSH|^~\\&|GW|H2|LAB|H1|20240102030406||ACK^A01^ACK|G1|P|2.5.1\rMSA|AA|8\r\x1c\r";
 
 const NOTHING: Counts = Counts {
     answered: 0,
@@ -205,79 +202,6 @@ fn a_worker_tells_its_job(rt: HostRuntime) -> Result<(), Fail> {
     assert!(rt; replies(&mut refuses.door, event, ("Issued", 0)));
     assert_eq!(rt; work(alloc, &mut refuses.door, 9)?.put, 1);
     Ok(())
-}
-
-// What a courier does over such a line at a gate that has kept what is sent of one message.
-fn carried(alloc: Global, answers: Device<'_>, writes: usize) -> Result<Ran, Fail> {
-    let mut door = arrived(alloc, 1)?;
-    let _counts = work(alloc, &mut door, 9)?;
-    Ok(carry(alloc, &mut door, answers, writes))
-}
-
-/// What it does whose line ends at the first message, once it wrote so much of it.
-const fn ended(written: usize) -> Ran {
-    (Err(RunFault::Line { n: 0 }), Some(written))
-}
-
-/// Each device fails at each of its calls in turn; and what comes back ends early, is no message, or acknowledges another.
-#[test]
-fn a_line_fails(rt: HostRuntime) -> Result<(), Fail> {
-    let alloc = rt.alloc();
-    for call in 0..ACKED.len() {
-        let answers = Device::new(alloc, ACKED, 1, call, 0);
-        assert!(rt;
-            carried(alloc, answers, 1_000)? == ended(SENT.len()),
-            "read {call}"
-        );
-    }
-    for call in 0..SENT.len() {
-        let answers = answers(alloc, ACKED);
-        assert!(rt;
-            carried(alloc, answers, call)? == ended(call),
-            "write {call}"
-        );
-    }
-    for bytes in [b"\x0bMSH".as_slice(), b"\x0bMSH\x1c\r", OTHER] {
-        let answers = answers(alloc, bytes);
-        assert!(rt; carried(alloc, answers, 1_000)? == ended(SENT.len()));
-    }
-    Ok(())
-}
-
-/// No acknowledgment comes, for ever.
-#[test]
-fn a_line_without_end(rt: HostRuntime) -> Result<(), Fail> {
-    let alloc = rt.alloc();
-    let (result, held) = carried(alloc, Device::endless(alloc, b""), 1_000)?;
-    assert!(rt; result == Err(RunFault::Turns) && held == Some(SENT.len()));
-    Ok(())
-}
-
-/// What a courier wrote that had no acknowledgment isn't sent again: the next one sends what follows.
-#[test]
-fn a_courier_follows_another(rt: HostRuntime) -> Result<(), Fail> {
-    let alloc = rt.alloc();
-    let mut door = arrived(alloc, 2)?;
-    assert_eq!(rt; work(alloc, &mut door, 9)?.put, 2);
-    let found = carry(alloc, &mut door, answers(alloc, b""), 1_000);
-    assert!(rt; found == ended(SENT.len()));
-    let (result, held) = carry(alloc, &mut door, answers(alloc, ACKED), 1_000);
-    assert!(rt; result == Ok(CARRIED) && held == Some(SENT.len()));
-    assert_eq!(rt; given_out(&door), (2, 1));
-    Ok(())
-}
-
-// How many results a gate has given out, and the sum of their numbers.
-fn given_out(door: &Solo) -> (u64, u64) {
-    let mut count: u64 = 0;
-    let mut sum: u64 = 0;
-    for entry in door.gate().journal() {
-        if let Entry::Out { n, .. } = entry {
-            count = count.saturating_add(1);
-            sum = sum.saturating_add(*n);
-        }
-    }
-    (count, sum)
 }
 
 /// A worker ends with a job in hand. Another one puts its result once the pair is issued again, and no one puts it twice.

@@ -4,7 +4,7 @@ use std::alloc::Global;
 use std::test::Fail;
 
 // A log of a receiver, a margin, and a message for the receiver, at place 2.
-fn accepted(alloc: Global) -> Result<State, StateFault> {
+pub(crate) fn accepted(alloc: Global) -> Result<State, StateFault> {
     let mut state = State::new(alloc);
     let lab = Event::Named {
         receiver: 0,

@@ -78,9 +78,11 @@ fn stored_by_two<J: Naming + Send + Sync, R: Threads + Wait + Abort + Sync>(
         || store(rt, alloc, &journal, b"second"),
     );
     let (one, other) = (one.ok_or("a receipt")?, other.ok_or("a receipt")?);
+    let refused = journal.put(rt, Vec::new(alloc)).err();
     let rows = journal.into_desk().close(&other).ok_or("closes")?;
     let first = rows.rows.get(one.place() as usize).ok_or("the first row")?;
     assert!(rt; first.as_slice() == b"first".as_slice() && one.place() != other.place());
+    assert!(rt; refused == Some(JournalFault::Empty));
     // (two records take two syncs at least, one behind the other, and four at most)
     assert!(rt; rows.settled == 2 && rows.syncs >= 2 && rows.syncs <= 4);
     Ok(())

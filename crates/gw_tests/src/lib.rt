@@ -16,6 +16,8 @@ mod dues;
 #[cfg(test)]
 mod failures;
 #[cfg(test)]
+mod folders;
+#[cfg(test)]
 mod forwards;
 #[cfg(test)]
 mod gates;

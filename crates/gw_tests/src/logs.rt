@@ -14,7 +14,7 @@ struct Write {
 
 /// Files by their numbers, as they are read and as they were synced, and what was written since. Once no call is left, nothing is done any more.
 #[derive(Drop)]
-struct Folder {
+pub(crate) struct Folder {
     alloc: Global,
     seen: Vec<Vec<u8>>,
     kept: Vec<Vec<u8>>,
@@ -43,7 +43,7 @@ fn copied(alloc: Global, files: &[Vec<u8>]) -> Result<Vec<Vec<u8>>, AllocError> 
 
 impl Folder {
     // A folder with these files, all of them on the disk.
-    fn new(alloc: Global, files: &[Vec<u8>], left: usize) -> Result<Folder, AllocError> {
+    pub(crate) fn new(alloc: Global, files: &[Vec<u8>], left: usize) -> Result<Folder, AllocError> {
         Ok(Folder {
             alloc,
             seen: copied(alloc, files)?,
@@ -157,7 +157,7 @@ impl Calls for Folder {
     }
 }
 
-fn batch(alloc: Global, records: &[&[u8]]) -> Result<Vec<Vec<u8>>, AllocError> {
+pub(crate) fn batch(alloc: Global, records: &[&[u8]]) -> Result<Vec<Vec<u8>>, AllocError> {
     let mut out = Vec::new(alloc);
     for bytes in records {
         out.push(Vec::from_slice(alloc, bytes)?)?;
@@ -165,8 +165,8 @@ fn batch(alloc: Global, records: &[&[u8]]) -> Result<Vec<Vec<u8>>, AllocError> {
     Ok(out)
 }
 
-fn no_files(alloc: Global) -> Result<Vec<Vec<u8>>, AllocError> {
-    batch(alloc, &[b"", b"", b"", b""])
+pub(crate) fn no_files(alloc: Global) -> Result<Vec<Vec<u8>>, AllocError> {
+    batch(alloc, &[b"", b"", b"", b"", b""])
 }
 
 // What two batches and their end do to a segment, until the power fails.
@@ -216,7 +216,7 @@ fn a_power_failure_leaves_whole_batches(rt: HostRuntime) -> Result<(), Fail> {
 }
 
 // A log of three records in two files.
-fn two_files(alloc: Global) -> Result<Folder, LogFault> {
+pub(crate) fn two_files(alloc: Global) -> Result<Folder, LogFault> {
     let folder = Folder::new(alloc, &no_files(alloc)?, 100)?;
     let disk = Recorded::<Folder, Brand>::new(folder);
     let mut log = match Log::create(alloc, disk, 7, b"start") {
@@ -273,6 +273,11 @@ fn open(alloc: Global, files: &[Vec<u8>], id: u64) -> Result<u64, LogFault> {
     }
 }
 
+// How many records the log in this folder has.
+pub(crate) fn count_in(alloc: Global, folder: &Folder) -> Result<u64, LogFault> {
+    open(alloc, &folder.seen, 7)
+}
+
 // The files of a log of four records, of which the last stands in the third file.
 fn three_files(alloc: Global) -> Result<Vec<Vec<u8>>, LogFault> {
     let disk = Recorded::<Folder, Brand>::new(two_files(alloc)?);
@@ -313,7 +318,7 @@ fn a_file_out_of_the_chain_is_damage(rt: HostRuntime) -> Result<(), Fail> {
     assert_eq!(rt; changed(alloc, 1, b""), damaged(1, 0)); // the first is gone
     assert_eq!(rt; changed(alloc, 2, b""), damaged(2, 0)); // one between others
     assert_eq!(rt; changed(alloc, 3, b""), damaged(3, 0)); // the last
-    if let [_, first, second, third] = files.as_slice() {
+    if let [_, first, second, third, _] = files.as_slice() {
         assert_eq!(rt; changed(alloc, 2, first), damaged(2, 0)); // a copy
         assert_eq!(rt; changed(alloc, 3, second), damaged(4, 0)); // an ended one
         assert_eq!(rt; changed(alloc, 2, third), damaged(2, 0));

@@ -1,5 +1,6 @@
 //! Growths that are refused, one after the other.
 mod gates;
+mod logs;
 mod runs;
 
 use std::alloc::Global;

@@ -1,6 +1,6 @@
-//! A stream served under a plan, over devices that give and take little, and fail.
+//! A stream served under a plan, over devices that give and take little.
 use crate::refusals::refuse;
-use crate::streams::{Device, Ran, written};
+use crate::streams::{Device, Ran};
 use crate::worked;
 use gw_ack::Stamp;
 use gw_stream::{Counts, Reads, RunFault, Writes, serve_once};
@@ -14,12 +14,6 @@ const STREAM: &[u8] =
     \x0bMSH|^~\\&|LAB|H1|GW|H2|20240102030405||ADT^A01^ADT_A01|7|P|2.5.1\rPID|||123|||||F\r\x1c\r\
     \x0bMSH|^~\\&|LAB|H1|GW|H2|20240102030405||ADT^A01^ADT_A01|7|P|2.5.1\rPID|||123\r\x1c\r";
 
-/// The answers before the message that is accepted.
-const FIRST: &[u8] =
-    b"\x0bMSH|^~\\&|GW|H2|LAB|H1|20240102030406||ACK^A01^ACK|G1|P|2.5.1\rMSA|AR|7\rERR||MSH^1^12^1^1|203^Unsupported version id^HL70357|E\r\x1c\r\
-    \x0bMSH|^~\\&|GW|H2|LAB|H1|20240102030406||ACK^A99^ACK|G2|P|2.5.1\rMSA|AR|7\rERR||MSH^1^9^1^2|201^Unsupported event code^HL70357|E\r\x1c\r\
-    \x0bMSH|^~\\&|||||20240102030406||ACK^^ACK|G3|P|2.5.1\rMSA|AR\rERR|||207^Application internal error^HL70357|E\r\x1c\r";
-
 /// All answers.
 const ANSWERS: &[u8] =
     b"\x0bMSH|^~\\&|GW|H2|LAB|H1|20240102030406||ACK^A01^ACK|G1|P|2.5.1\rMSA|AR|7\rERR||MSH^1^12^1^1|203^Unsupported version id^HL70357|E\r\x1c\r\
@@ -27,9 +21,6 @@ const ANSWERS: &[u8] =
     \x0bMSH|^~\\&|||||20240102030406||ACK^^ACK|G3|P|2.5.1\rMSA|AR\rERR|||207^Application internal error^HL70357|E\r\x1c\r\
     \x0bMSH|^~\\&|GW|H2|LAB|H1|20240102030406||ACK^A01^ACK|G4|P|2.5.1\rMSA|AA|7\r\x1c\r\
     \x0bMSH|^~\\&|GW|H2|LAB|H1|20240102030406||ACK^A01^ACK|G5|P|2.5.1\rMSA|AE|7\rERR||PID^1^8|101^Required field missing^HL70357|E\r\x1c\r";
-
-/// Where each block of the stream ends, and its answer.
-const ENDS: [(usize, usize); 5] = [(81, 128), (164, 255), (167, 361), (250, 434), (327, 557)];
 
 /// What the archive is sent.
 const ARCHIVE: &[u8] = b"\x0bMSH|^~\\&||||||||7\rPID||||||||2\r\x1c\r";
@@ -66,30 +57,6 @@ fn answered(
     Ok(result)
 }
 
-/// What a run answers; how many bytes of the answers and of what the archive is sent their devices then hold, and how many calls these have left.
-#[derive(Clone, Copy)]
-struct Served {
-    result: Result<Counts, RunFault>,
-    answers: Option<usize>,
-    archive: Option<usize>,
-    calls: (usize, usize),
-}
-
-fn run(
-    alloc: Global,
-    mut input: Device<'_>,
-    mut answers: Device<'_>,
-    mut archive: Device<'_>,
-) -> Result<Served, Fail> {
-    let result = answered(alloc, 0, &mut input, &mut answers, &mut archive)?;
-    Ok(Served {
-        result,
-        answers: answers.holds(ANSWERS),
-        archive: archive.holds(ARCHIVE),
-        calls: (answers.calls, archive.calls),
-    })
-}
-
 /// What a run answers of which this growth is refused, and how many bytes its two writers have: `WHOLE` where none is.
 pub(crate) fn run_refused(alloc: Global, growth: u32) -> Result<(Ran, Option<usize>), Fail> {
     let mut input = Device::new(alloc, STREAM, 1, 1000, 0);
@@ -107,77 +74,4 @@ pub(crate) const WHOLE: (Ran, Option<usize>) = (
 /// A device that takes `most` bytes a call, and fails after `calls` calls.
 fn sink<'a>(alloc: Global, most: usize, calls: usize) -> Device<'a> {
     Device::new(alloc, b"", most, calls, 0)
-}
-
-/// How many bytes the archive is sent, where the message is accepted.
-fn sent(is_accepted: bool) -> usize {
-    if is_accepted { ARCHIVE.len() } else { 0 }
-}
-
-/// The bytes are the same, however the stream was cut. Each block goes out in one write, where its writer takes it.
-#[test]
-fn whole_and_in_pieces(rt: HostRuntime) -> Result<(), Fail> {
-    let alloc = rt.alloc();
-    for most in [65_536, 1] {
-        let input = Device::new(alloc, STREAM, most, 1000, 0);
-        let served = run(alloc, input, sink(alloc, 65_536, 5), sink(alloc, 65_536, 1))?;
-        assert!(rt; served.result == Ok(COUNTS) && served.calls == (0, 0));
-        assert!(rt; served.answers == Some(ANSWERS.len()) && served.archive == Some(ARCHIVE.len()));
-    }
-    Ok(())
-}
-
-#[test]
-fn reader_fails(rt: HostRuntime) -> Result<(), Fail> {
-    let alloc = rt.alloc();
-    for reads in 0..STREAM.len() + 2 {
-        let input = Device::new(alloc, STREAM, 1, reads, 0);
-        let served = run(alloc, input, sink(alloc, 1, 2000), sink(alloc, 1, 2000))?;
-        let want = if reads > STREAM.len() {
-            Ok(COUNTS)
-        } else {
-            Err(RunFault::Read)
-        };
-        let answers = written(&ENDS, reads);
-        assert!(rt; served.result == want && served.answers == Some(answers));
-        assert!(rt; served.archive == Some(sent(answers > FIRST.len())));
-    }
-    Ok(())
-}
-
-/// Where the answers' writer fails, the archive has what it is sent of each message whose answer was begun.
-#[test]
-fn answers_fail(rt: HostRuntime) -> Result<(), Fail> {
-    let alloc = rt.alloc();
-    for writes in 0..ANSWERS.len() {
-        let input = Device::new(alloc, STREAM, 1, 1000, 0);
-        let served = run(alloc, input, sink(alloc, 1, writes), sink(alloc, 1, 2000))?;
-        assert!(rt; served.result == Err(RunFault::Write) && served.answers == Some(writes));
-        assert!(rt; served.archive == Some(sent(writes >= FIRST.len())));
-    }
-    Ok(())
-}
-
-/// Where the archive's writer fails, the message that it is sent isn't answered.
-#[test]
-fn archive_fails(rt: HostRuntime) -> Result<(), Fail> {
-    let alloc = rt.alloc();
-    for writes in 0..ARCHIVE.len() {
-        let input = Device::new(alloc, STREAM, 1, 1000, 0);
-        let served = run(alloc, input, sink(alloc, 1, 2000), sink(alloc, 1, writes))?;
-        assert!(rt; served.result == Err(RunFault::Write) && served.answers == Some(FIRST.len()));
-        assert!(rt; served.archive == Some(writes));
-    }
-    Ok(())
-}
-
-/// A stream without another block has no end.
-#[test]
-fn a_stream_without_end(rt: HostRuntime) -> Result<(), Fail> {
-    let alloc = rt.alloc();
-    let input = Device::endless(alloc, STREAM);
-    let served = run(alloc, input, sink(alloc, 1, 2000), sink(alloc, 1, 2000))?;
-    assert!(rt; served.result == Err(RunFault::Turns));
-    assert!(rt; served.answers == Some(ANSWERS.len()) && served.archive == Some(ARCHIVE.len()));
-    Ok(())
 }

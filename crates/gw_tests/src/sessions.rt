@@ -6,18 +6,13 @@ use gw_ack::Stamp;
 use gw_crew::{Door, Note, Receipt, Solo};
 use gw_gate::Entry;
 use gw_session::{FixedClock, session};
-use gw_stream::{Counts, Reads, RunFault, Writes};
+use gw_stream::{Counts, Reads, Writes};
 use std::alloc::Global;
 use std::test::Fail;
 
 /// The block of a message.
 const STREAM: &[u8] =
     b"\x0bMSH|^~\\&|LAB|H1|GW|H2|20240102030405||ADT^A01^ADT_A01|7|P|2.5.1\rPID|||123|||||F\r\x1c\r";
-
-/// The block twice.
-const TWICE: &[u8] =
-    b"\x0bMSH|^~\\&|LAB|H1|GW|H2|20240102030405||ADT^A01^ADT_A01|7|P|2.5.1\rPID|||123|||||F\r\x1c\r\
-    \x0bMSH|^~\\&|LAB|H1|GW|H2|20240102030405||ADT^A01^ADT_A01|7|P|2.5.1\rPID|||123|||||F\r\x1c\r";
 
 const ACCEPTED: &[u8] =
     b"\x0bMSH|^~\\&|GW|H2|LAB|H1|20240102030406||ACK^A01^ACK|G1|P|2.5.1\rMSA|AA|7\r\x1c\r";
@@ -75,72 +70,4 @@ pub(crate) fn count_accepted(door: &Solo) -> usize {
         }
     }
     count
-}
-
-/// A read fails in turn: all is written of what was read, and nothing else is accepted.
-#[test]
-fn reader_fails(rt: HostRuntime) -> Result<(), Fail> {
-    let alloc = rt.alloc();
-    for reads in 0..STREAM.len() + 1 {
-        let mut door = door(alloc)?;
-        let input = Device::new(alloc, STREAM, 1, reads, 0);
-        let (result, held) = over(alloc, &mut door, 0, input, 1_000)?;
-        let (len, count) = if reads < STREAM.len() {
-            (0, 0)
-        } else {
-            (ACCEPTED.len(), 1)
-        };
-        assert!(rt; result == Err(RunFault::Read) && held == Some(len));
-        assert_eq!(rt; count_accepted(&door), count);
-    }
-    Ok(())
-}
-
-/// A write fails in turn: what was accepted stays so.
-#[test]
-fn writer_fails(rt: HostRuntime) -> Result<(), Fail> {
-    let alloc = rt.alloc();
-    for writes in 0..ACCEPTED.len() {
-        let mut door = door(alloc)?;
-        let input = Device::new(alloc, STREAM, 1, 1_000, 0);
-        let (result, held) = over(alloc, &mut door, 0, input, writes)?;
-        assert!(rt; result == Err(RunFault::Write) && held == Some(writes));
-        assert_eq!(rt; count_accepted(&door), 1);
-    }
-    Ok(())
-}
-
-/// The writer takes the first answer and fails: both messages were accepted, each after a look at the plan.
-#[test]
-fn the_second_answer_fails(rt: HostRuntime) -> Result<(), Fail> {
-    let alloc = rt.alloc();
-    let mut door = door(alloc)?;
-    let input = Device::new(alloc, TWICE, 1, 1_000, 0);
-    let (result, held) = over(alloc, &mut door, 0, input, ACCEPTED.len())?;
-    assert!(rt; result == Err(RunFault::Write) && held == Some(ACCEPTED.len()));
-    assert_eq!(rt;
-        (door.gate().journal().len(), count_accepted(&door)),
-        (2, 2)
-    );
-    let [
-        Note::Look(0, _),
-        Note::Added(_),
-        Note::Look(0, _),
-        Note::Added(_),
-    ] = door.notes()
-    else {
-        return Err("other notes".into());
-    };
-    Ok(())
-}
-
-/// A stream without another block has no end.
-#[test]
-fn a_stream_without_end(rt: HostRuntime) -> Result<(), Fail> {
-    let alloc = rt.alloc();
-    let mut door = door(alloc)?;
-    let input = Device::endless(alloc, STREAM);
-    let (result, held) = over(alloc, &mut door, 0, input, 1_000)?;
-    assert!(rt; result == Err(RunFault::Turns) && held == Some(ACCEPTED.len()));
-    Ok(())
 }

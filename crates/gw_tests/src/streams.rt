@@ -15,20 +15,6 @@ const STREAM: &[u8] =
 const ANSWERS: &[u8] =
     b"\x0bMSH|^~\\&|||LAB||20240102030406||ACK^^ACK|G1|P|2.5.1\rMSA|AA\r\x1c\r\x0bMSH|^~\\&|||LAB||20240102030406||ACK^^ACK|G2|P|2.5.1\rMSA|AE\rERR||PID^1|100^Segment sequence error^HL70357|E\r\x1c\r\x0bMSH|^~\\&|||||20240102030406||ACK^^ACK|G3|P|2.5.1\rMSA|AR\rERR|||207^Application internal error^HL70357|E\r\x1c\r";
 
-/// Where each block of the stream ends, and its answer.
-const ENDS: [(usize, usize); 3] = [(22, 62), (40, 172), (47, 278)];
-
-/// How many bytes are written once this many were read, where an answer ends so for each block that does.
-pub(crate) fn written(ends: &[(usize, usize)], reads: usize) -> usize {
-    let mut count = 0;
-    for (block, answer) in ends {
-        if *block <= reads {
-            count = *answer;
-        }
-    }
-    count
-}
-
 const COUNTS: Counts = Counts {
     answered: 3,
     put: 0,
@@ -39,14 +25,12 @@ const COUNTS: Counts = Counts {
 };
 
 /// Moves a limited number of bytes a call, fails after a number of calls, and is interrupted before each.
-/// Behind what it has it gives a CR a call for ever, if it is endless.
 #[derive(Drop)]
 pub(crate) struct Device<'a> {
     rest: &'a [u8],
-    is_endless: bool,
     held: Vec<u8>,
     most: usize,
-    pub(crate) calls: usize,
+    calls: usize,
     often: usize,
     left: usize,
 }
@@ -61,20 +45,12 @@ impl<'a> Device<'a> {
     ) -> Device<'a> {
         Device {
             rest,
-            is_endless: false,
             held: Vec::new(alloc),
             most,
             calls,
             often,
             left: often,
         }
-    }
-
-    /// A reader that gives these bytes, one a call, and a CR for ever.
-    pub(crate) fn endless(alloc: Global, first: &'a [u8]) -> Device<'a> {
-        let mut device = Device::new(alloc, first, 1, 2_000_000, 0);
-        device.is_endless = true;
-        device
     }
 
     /// The same, with room for what it takes.
@@ -109,10 +85,6 @@ impl<'a> Device<'a> {
 impl Read for Device<'_> {
     fn read(&mut self, buf: &mut [u8]) -> io::Result<usize> {
         self.begin()?;
-        if self.is_endless && self.rest.is_empty() && !buf.is_empty() {
-            buf[0] = b'\r';
-            return Ok(1);
-        }
         let count = self.rest.len().min(buf.len()).min(self.most);
         let (front, rest) = self.rest.split_at(count);
         buf[..count].copy_from_slice(front);
@@ -174,22 +146,6 @@ pub(crate) type Ran = (Result<Counts, RunFault>, Option<usize>);
 
 pub(crate) const WHOLE: Ran = (Ok(COUNTS), Some(ANSWERS.len()));
 
-#[test]
-fn reader_fails(rt: HostRuntime) -> Result<(), Fail> {
-    let alloc = rt.alloc();
-    for reads in 0..STREAM.len() + 2 {
-        let input = Device::new(alloc, STREAM, 1, reads, 0);
-        let (result, held, _) = run(alloc, input, Device::new(alloc, b"", 1, 1000, 0))?;
-        let want = if reads > STREAM.len() {
-            Ok(COUNTS)
-        } else {
-            Err(RunFault::Read)
-        };
-        assert!(rt; result == want && held == Some(written(&ENDS, reads)));
-    }
-    Ok(())
-}
-
 /// Each answer goes out in one write, where the writer takes it.
 #[test]
 fn writer_fails(rt: HostRuntime) -> Result<(), Fail> {
@@ -233,16 +189,6 @@ fn answers_are_gathered(rt: HostRuntime) -> Result<(), Fail> {
     let input = Device::new(alloc, STREAM, 65_536, 1000, 0);
     let (result, held, left) = run(alloc, input, Device::new(alloc, b"", 65_536, 1, 0))?;
     assert!(rt; result == Ok(COUNTS) && held == Some(ANSWERS.len()) && left == 0);
-    Ok(())
-}
-
-/// A stream without another block has no end.
-#[test]
-fn a_stream_without_end(rt: HostRuntime) -> Result<(), Fail> {
-    let alloc = rt.alloc();
-    let input = Device::endless(alloc, STREAM);
-    let (result, held, _) = run(alloc, input, Device::new(alloc, b"", 1, 1000, 0))?;
-    assert!(rt; result == Err(RunFault::Turns) && held == Some(ANSWERS.len()));
     Ok(())
 }
 
