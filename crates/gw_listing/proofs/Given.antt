@@ -203,18 +203,18 @@ before_listed id files last first0 count number first before acc records listed 
     (done.0, done.1, subst (AreListed files first0 done.0) (append_assoc acc these those) done.2)
 
 -- a log that is open and has nothing pending
-pub held_listed : {D : Type 0} (seen : D → Files) (may_leave : D → Files → Type 0) (s : LogState D) (from : Origin) (records : List (List ℕ))
-    → Holds seen may_leave s from records [] → AreAllListed (seen s.segment.disk) from.number s.segment.number records
-held_listed seen may_leave s from records holds =
+pub held_listed : {D : Type 0} (seen : D → Files) (may_leave : D → Files → Type 0) (s : LogState D) (from : Origin) (head : Head) (records : List (List ℕ))
+    → Holds seen may_leave s from head records [] → AreAllListed (seen s.segment.disk) from.number s.segment.number records
+held_listed seen may_leave s from head records holds =
     let files = seen s.segment.disk in
-    let front = before_listed s.id files holds.head from.number 0 from.number from.first from.before [] holds.front refl (omega arith) holds.ended in
+    let front = before_listed s.id files head from.number 0 from.number from.first from.before [] holds.front refl (omega arith) holds.ended in
     let at : s.segment.number ≡ from.number + front.0 = sym holds.number ∙ front.1 in
     let staged = holds.stands.staged in (
       suc front.0,
       omega (arith, at),
       record {
         front = holds.front;
-        head = spelled holds.head;
+        head = spelled head;
         these = holds.these;
         before = front.2;
         has = record {
@@ -229,15 +229,15 @@ held_listed seen may_leave s from records holds =
 
 -- what the folder was a log of
 pub open_listed : {D : Type 0} (seen : D → Files) (may_leave : D → Files → Type 0) (id first its_id its_first its_last : ℕ) (disk looked walked : D) (s : LogState D)
-    (from : Origin) (records : List (List ℕ)) → its_id ≡ id → its_first ≡ first → its_last ≡ s.segment.number → seen looked ≡ seen disk → seen walked ≡ seen s.segment.disk
-    → (last : ℕ) → AreEnds first last (seen disk) → (IsLog id (seen looked) from records → Holds seen may_leave s from records []) → IsLog its_id (seen disk) from records
+    (from : Origin) (head : Head) (records : List (List ℕ)) → its_id ≡ id → its_first ≡ first → its_last ≡ s.segment.number → seen looked ≡ seen disk → seen walked ≡ seen s.segment.disk
+    → (last : ℕ) → AreEnds first last (seen disk) → (IsLog id (seen looked) from head records → Holds seen may_leave s from head records []) → IsLog its_id (seen disk) from head records
     → (its_first ≡ from.number) × AreAllListed (seen walked) its_first its_last records
-open_listed seen may_leave id first its_id its_first its_last disk looked walked s from records is_id is_first is_last same kept last ends held log =
-    let mine : IsLog id (seen disk) from records = subst (λ i. IsLog i (seen disk) from records) is_id log in
-    let start : its_first ≡ from.number = is_first ∙ sym (least_is id (seen disk) from records mine first last ends) in
-    let holds = held (subst (λ f. IsLog id f from records) (sym same) mine) in
+open_listed seen may_leave id first its_id its_first its_last disk looked walked s from head records is_id is_first is_last same kept last ends held log =
+    let mine : IsLog id (seen disk) from head records = subst (λ i. IsLog i (seen disk) from head records) is_id log in
+    let start : its_first ≡ from.number = is_first ∙ sym (least_is id (seen disk) from head records mine first last ends) in
+    let holds = held (subst (λ f. IsLog id f from head records) (sym same) mine) in
     let all : AreAllListed (seen walked) its_first its_last records =
     subst (λ n. AreAllListed (seen walked) its_first n records) (sym is_last)
     (subst (λ n. AreAllListed (seen walked) n s.segment.number records) (sym start)
-    (subst (λ f. AreAllListed f from.number s.segment.number records) (sym kept) (held_listed seen may_leave s from records holds))) in
+    (subst (λ f. AreAllListed f from.number s.segment.number records) (sym kept) (held_listed seen may_leave s from head records holds))) in
     (start, all)

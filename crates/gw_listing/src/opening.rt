@@ -1,6 +1,6 @@
 //! How a log is opened whose number isn't known.
 ghost use Rattle.std.specs.Prelude.{◌≡◌, [], List, ℕ, IfOk};
-ghost use Rattle.gw_log.specs.Chain.{Origin, IsLog};
+ghost use Rattle.gw_log.specs.Chain.{Head, Origin, IsLog};
 ghost use Rattle.gw_log.specs.Disk.{AreEnds, Only};
 ghost use Rattle.gw_listing.specs.Walks.{AreAllListed, IsListed};
 
@@ -49,8 +49,8 @@ fn open_found<D: Disk>(alloc: Global, disk: D) -> Result<Walk<D>, (LogFault, D)>
     // Nothing was given yet.
     ensures listed { IfOk result (λ w. D.honest w.reader.disk → IsListed D.seen w []) }
     // What the folder is a log of, its files have up to the last.
-    ensures log { IfOk result (λ w. D.honest w.reader.disk → (from : Origin) (records : List (List ℕ)) →
-        IsLog w.id (D.seen disk) from records → (w.first ≡ from.number) × AreAllListed (D.seen w.reader.disk) w.first w.last records) }
+    ensures log { IfOk result (λ w. D.honest w.reader.disk → (from : Origin) (head : Head) (records : List (List ℕ)) →
+        IsLog w.id (D.seen disk) from head records → (w.first ≡ from.number) × AreAllListed (D.seen w.reader.disk) w.first w.last records) }
     ensures back { IfOk result (λ w. D.honest w.reader.disk → D.honest disk) }
 {
     let mut disk = disk;
@@ -144,8 +144,8 @@ pub fn open_log<D: Disk>(alloc: Global, disk: D) -> Result<Walk<D>, (ListFault, 
     // Nothing was given yet.
     ensures listed { IfOk result (λ w. D.honest w.reader.disk → IsListed D.seen w []) }
     // What the folder is a log of, its files have up to the last.
-    ensures log { IfOk result (λ w. D.honest w.reader.disk → (from : Origin) (records : List (List ℕ)) →
-        IsLog w.id (D.seen disk) from records → (w.first ≡ from.number) × AreAllListed (D.seen w.reader.disk) w.first w.last records) }
+    ensures log { IfOk result (λ w. D.honest w.reader.disk → (from : Origin) (head : Head) (records : List (List ℕ)) →
+        IsLog w.id (D.seen disk) from head records → (w.first ≡ from.number) × AreAllListed (D.seen w.reader.disk) w.first w.last records) }
     ensures back { IfOk result (λ w. D.honest w.reader.disk → D.honest disk) }
 {
     match open_found(alloc, disk) {

@@ -39,22 +39,22 @@ before_is id n b f before o file h begins =
 
 -- ---- the heads
 
-module _ (id : ℕ) (files : Files) (from : Origin) (records : List (List ℕ)) (log : IsLog id files from records) (first last : ℕ) (start : from.number ≡ first)
-    (end : log.head.number ≡ last) where
+module _ (id : ℕ) (files : Files) (from : Origin) (head : Head) (records : List (List ℕ)) (log : IsLog id files from head records) (first last : ℕ) (start : from.number ≡ first)
+    (end : head.number ≡ last) where
   pub first_has : HasNoHead id first (files first) → ⊥
-  first_has not = not from.before (subst (λ k. HasHead id k from.before (files k)) start (first_of id files from records log))
+  first_has not = not from.before (subst (λ k. HasHead id k from.before (files k)) start (first_of id files from head records log))
 
   pub next_has : (n : ℕ) → first ≤ n → n < last → HasNoHead id (n + 1) (files (n + 1)) → ⊥
-  next_has n le lt not = not (length (files n)) (next_of id files from records log n (omega (arith, le, start)) (omega (arith, lt, end)))
+  next_has n le lt not = not (length (files n)) (next_of id files from head records log n (omega (arith, le, start)) (omega (arith, lt, end)))
 
   pub size_is : (n f before o : ℕ) → first ≤ n → n < last → BeginsAs id (n + 1) f before o (files (n + 1)) → before ≡ length (files n)
   size_is n f before o le lt begins =
-      before_is id (n + 1) (length (files n)) f before o (files (n + 1)) (next_of id files from records log n (omega (arith, le, start)) (omega (arith, lt, end))) begins
+      before_is id (n + 1) (length (files n)) f before o (files (n + 1)) (next_of id files from head records log n (omega (arith, le, start)) (omega (arith, lt, end))) begins
 
   pub oldest_is : (n f before o : ℕ) → n ≡ last → BeginsAs id n f before o (files n) → o < first → ⊥
   oldest_is n f before o is begins lt =
-      let head : HasHead log.head.id log.head.number log.head.before (files log.head.number) = record {
-        head = log.head;
+      let its : HasHead head.id head.number head.before (files head.number) = record {
+        head = head;
         records = log.these;
         wide = log.last.wide;
         has = log.last.has;
@@ -63,8 +63,8 @@ module _ (id : ℕ) (files : Files) (from : Origin) (records : List (List ℕ)) 
         its_before = refl;
       } in
       let here = subst (λ k. HasRecordAt 0 (spelled begins.head) (files k)) (is ∙ sym end) begins.here in
-      let same = same_numbers begins.head log.head begins.wide log.last.wide
-      (same_first log.head.id log.head.number log.head.before (spelled begins.head) (files log.head.number) head here) in
+      let same = same_numbers begins.head head begins.wide log.last.wide
+      (same_first head.id head.number head.before (spelled begins.head) (files head.number) its here) in
       omega (arith, lt, begins.its_oldest, same.3, log.there, start)
 
 -- ---- the last file
@@ -78,30 +78,30 @@ has_at id files last n f b at _ m le lt (more _ _ _ h these those fol is rest) d
   | inr differs ↦ has_at id files last (n + 1) (f + length these) (length (files n)) at those m (omega (arith, le, differs)) lt rest damage
 ]
 
-module _ (id : ℕ) (files : Files) (from : Origin) (records : List (List ℕ)) (log : IsLog id files from records) (first top : ℕ) (ends : AreEnds first top files) where
-  at_last : (at n : ℕ) → n ≡ log.head.number → IsDamagedAt at (files n) → ⊥
+module _ (id : ℕ) (files : Files) (from : Origin) (head : Head) (records : List (List ℕ)) (log : IsLog id files from head records) (first top : ℕ) (ends : AreEnds first top files) where
+  at_last : (at n : ℕ) → n ≡ head.number → IsDamagedAt at (files n) → ⊥
   at_last at n is damage =
-      not_both (files log.head.number) (spelled log.head ∷ log.these) at log.last.has (subst (λ k. IsDamagedAt at (files k)) is damage)
+      not_both (files head.number) (spelled head ∷ log.these) at log.last.has (subst (λ k. IsDamagedAt at (files k)) is damage)
 
   pub top_whole : (at : ℕ) → IsDamagedAt at (files top) → ⊥
-  top_whole at damage = elim (cases_eq top log.head.number) [
+  top_whole at damage = elim (cases_eq top head.number) [
     | inl is ↦ at_last at top is damage
     | inr differs ↦
-        let next : top ≡ log.head.number + 1 = omega (arith, differs, (last_within id files from records log first top ends).1, top_near id files from records log first top ends) in
-        not_both (files (log.head.number + 1)) log.unborn.records at log.unborn.has (subst (λ k. IsDamagedAt at (files k)) next damage)
+        let next : top ≡ head.number + 1 = omega (arith, differs, (last_within id files from head records log first top ends).1, top_near id files from head records log first top ends) in
+        not_both (files (head.number + 1)) log.unborn.records at log.unborn.has (subst (λ k. IsDamagedAt at (files k)) next damage)
   ]
 
   pub former_whole : (at : ℕ) → first < top → IsDamagedAt at (files (top - 1)) → ⊥
-  former_whole at lt damage = elim (cases_eq top log.head.number) [
-    | inl is ↦ has_at id files log.head from.number from.first from.before at log.front (top - 1)
-        (omega (arith, lt, least_is id files from records log first top ends)) (omega (arith, lt, is)) log.ended damage
+  former_whole at lt damage = elim (cases_eq top head.number) [
+    | inl is ↦ has_at id files head from.number from.first from.before at log.front (top - 1)
+        (omega (arith, lt, least_is id files from head records log first top ends)) (omega (arith, lt, is)) log.ended damage
     | inr differs ↦
-        at_last at (top - 1) (omega (arith, differs, (last_within id files from records log first top ends).1, top_near id files from records log first top ends)) damage
+        at_last at (top - 1) (omega (arith, differs, (last_within id files from head records log first top ends).1, top_near id files from head records log first top ends)) damage
   ]
 
-  pub last_is_open : (rows : List (List ℕ)) (end : ℕ) → log.head.number ≡ top → UpTo (files top) end rows → IsSealed rows → ⊥
+  pub last_is_open : (rows : List (List ℕ)) (end : ℕ) → head.number ≡ top → UpTo (files top) end rows → IsSealed rows → ⊥
   last_is_open rows end is up sealed =
-      last_open log.head log.these rows (files log.head.number) log.last (subst (λ k. Has rows (files k)) (sym is) up.has) sealed
+      last_open head log.these rows (files head.number) log.last (subst (λ k. Has rows (files k)) (sym is) up.has) sealed
 
 -- ---- what was read before a step, of what is there after it
 

@@ -1,5 +1,5 @@
 -- What is found in a folder when a log is opened.
-use Rattle.std.proofs.Common.{◌≡◌, ◌≢◌, inl, inr, ⊎_elim, ℕ, ◌+◌, ◌-◌, ◌<◌, ◌≤◌, List, [], ◌∷◌, ◌++◌, length, drop, refl, sym, ◌∙◌, ap, subst, arith, append_assoc}
+use Rattle.std.proofs.Common.{◌≡◌, ◌≢◌, inl, inr, ⊎_elim, ℕ, ◌+◌, ◌-◌, ◌<◌, ◌≤◌, List, [], ◌∷◌, ◌++◌, length, drop, refl, sym, ◌∙◌, ap, subst, arith, append_assoc, length-append}
 use Rattle.std.specs.Prelude.{Vec, false}
 use Rattle.std.specs.declared.alloc.Global.{Global}
 use Rattle.std.proofs.lemmas.Bool.{cases_eq, cases_lt}
@@ -7,7 +7,7 @@ use Rattle.gw_log.specs.Disk.{Files, Only, AreEnds, Changes}
 use Rattle.gw_log.specs.File.{body, blocks, Has, HasRecordAt}
 use Rattle.gw_log.specs.State.{records_of, SegmentState, IsStaged}
 use Rattle.gw_log.specs.Chain.{Head, spelled, AreSome, IsEnded, ended, AreBefore, none, more, IsUnborn, Origin, IsLast, IsLog, LogState, Holds}
-use Rattle.gw_log.specs.Opening.{BeginsAs, IsSealed}
+use Rattle.gw_log.specs.Opening.{BeginsAs, AreOfLast, IsSealed}
 use Rattle.gw_log.specs.own.Opens.{Reads, IsTrimmed, IsFound, IsLastOf, IsTop}
 use Rattle.gw_log.specs.own.Steps.{UpTo}
 use Rattle.gw_log.proofs.Ways.{first_same, one_way}
@@ -31,7 +31,7 @@ ended_sealed : (h : Head) (these records : List (List ℕ)) (file : List ℕ) �
 ended_sealed h these records file is has = record { front = spelled h ∷ these; is = one_way file records (ended h these) has (has_ended h these file is) }
 
 -- each file before the last is ended
-sealed_at : (id : ℕ) (files : Files) (last : Head) (n f b : ℕ) (front records : List (List ℕ)) (m : ℕ) → n ≤ m → m < last.number
+pub sealed_at : (id : ℕ) (files : Files) (last : Head) (n f b : ℕ) (front records : List (List ℕ)) (m : ℕ) → n ≤ m → m < last.number
     → AreBefore id files last n f b front → Has records (files m) → IsSealed records
 sealed_at id files last n f b _ records m le lt (none _ _ _ fol) has = absurd (omega (arith, le, lt, fol.its_number))
 sealed_at id files last n f b _ records m le lt (more _ _ _ h these those fol is rest) has = elim (cases_eq m n) [
@@ -39,15 +39,15 @@ sealed_at id files last n f b _ records m le lt (more _ _ _ h these those fol is
   | inr differs ↦ sealed_at id files last (n + 1) (f + length these) (length (files n)) those records m (omega (arith, le, differs)) lt rest has
 ]
 
-module _ (id : ℕ) (files : Files) (from : Origin) (records : List (List ℕ)) (log : IsLog id files from records) (first top : ℕ) (ends : AreEnds first top files) where
-  from_le : from.number ≤ log.head.number
-  from_le = before_le id files log.head from.number from.first from.before log.front log.ended
+module _ (id : ℕ) (files : Files) (from : Origin) (head : Head) (records : List (List ℕ)) (log : IsLog id files from head records) (first top : ℕ) (ends : AreEnds first top files) where
+  from_le : from.number ≤ head.number
+  from_le = before_le id files head from.number from.first from.before log.front log.ended
 
-  pub last_within : (first ≤ log.head.number) × (log.head.number ≤ top)
-  last_within = ends.within log.head.number (some_there id files from records log log.head.number from_le (omega arith))
+  pub last_within : (first ≤ head.number) × (head.number ≤ top)
+  last_within = ends.within head.number (some_there id files from head records log head.number from_le (omega arith))
 
   first_within : (first ≤ from.number) × (from.number ≤ top)
-  first_within = ends.within from.number (some_there id files from records log from.number (omega arith) from_le)
+  first_within = ends.within from.number (some_there id files from head records log from.number (omega arith) from_le)
 
   pub least_is : from.number ≡ first
   least_is = elim (cases_lt first from.number) [
@@ -55,58 +55,57 @@ module _ (id : ℕ) (files : Files) (from : Origin) (records : List (List ℕ)) 
     | inr ge ↦ omega (arith, ge, first_within.0)
   ]
 
-  pub top_near : top ≤ log.head.number + 1
-  top_near = elim (cases_lt (log.head.number + 1) top) [
+  pub top_near : top ≤ head.number + 1
+  top_near = elim (cases_lt (head.number + 1) top) [
     | inl lt ↦ absurd (ends.high (omega (arith, first_within.0, first_within.1)) (log.none_above top lt))
     | inr ge ↦ omega (arith, ge)
   ]
 
   -- where the file before the top one isn't ended, it is the last
-  pub former_last : (former : List (List ℕ)) (end : ℕ) → first < top → UpTo (files (top - 1)) end former → (IsSealed former → ⊥) → log.head.number ≡ top - 1
-  former_last former end lt up not = elim (cases_eq log.head.number top) [
-    | inl is ↦ absurd (not (sealed_at id files log.head from.number from.first from.before log.front former (top - 1) (omega (arith, lt, least_is))
+  pub former_last : (former : List (List ℕ)) (end : ℕ) → first < top → UpTo (files (top - 1)) end former → (IsSealed former → ⊥) → head.number ≡ top - 1
+  former_last former end lt up not = elim (cases_eq head.number top) [
+    | inl is ↦ absurd (not (sealed_at id files head from.number from.first from.before log.front former (top - 1) (omega (arith, lt, least_is))
         (omega (arith, lt, is)) log.ended up.has))
     | inr differs ↦ omega (arith, differs, last_within.1, top_near)
   ]
 
   -- where it is ended, the top one is
-  pub top_behind : (former : List (List ℕ)) (end : ℕ) → first < top → UpTo (files (top - 1)) end former → IsSealed former → log.head.number ≡ top
-  top_behind former end lt up sealed = elim (cases_eq log.head.number top) [
+  pub top_behind : (former : List (List ℕ)) (end : ℕ) → first < top → UpTo (files (top - 1)) end former → IsSealed former → head.number ≡ top
+  top_behind former end lt up sealed = elim (cases_eq head.number top) [
     | inl is ↦ is
     | inr differs ↦
-        let here : top - 1 ≡ log.head.number = omega (arith, differs, last_within.1, top_near) in
-        absurd (last_open log.head log.these former (files log.head.number) log.last (subst (λ k. Has former (files k)) here up.has) sealed)
+        let here : top - 1 ≡ head.number = omega (arith, differs, last_within.1, top_near) in
+        absurd (last_open head log.these former (files head.number) log.last (subst (λ k. Has former (files k)) here up.has) sealed)
   ]
 
   -- so it is where there is no other
-  pub top_alone : (first < top → ⊥) → log.head.number ≡ top
+  pub top_alone : (first < top → ⊥) → head.number ≡ top
   top_alone alone = elim (cases_lt first top) [
     | inl lt ↦ absurd (alone lt)
     | inr ge ↦ omega (arith, ge, last_within.0, last_within.1)
   ]
 
   -- and where it has more than a head
-  pub top_long : (rows : List (List ℕ)) (end : ℕ) → 1 < length rows → UpTo (files top) end rows → log.head.number ≡ top
-  top_long rows end long up = elim (cases_eq log.head.number top) [
+  pub top_long : (rows : List (List ℕ)) (end : ℕ) → 1 < length rows → UpTo (files top) end rows → head.number ≡ top
+  top_long rows end long up = elim (cases_eq head.number top) [
     | inl is ↦ is
     | inr differs ↦
-        let here : top ≡ log.head.number + 1 = omega (arith, differs, last_within.1, top_near) in
-        let same = one_way (files (log.head.number + 1)) rows log.unborn.records (subst (λ k. Has rows (files k)) here up.has) log.unborn.has in
+        let here : top ≡ head.number + 1 = omega (arith, differs, last_within.1, top_near) in
+        let same = one_way (files (head.number + 1)) rows log.unborn.records (subst (λ k. Has rows (files k)) here up.has) log.unborn.has in
         absurd (omega (arith, long, ap length same, log.unborn.at_most))
   ]
 
-  pub found_so : (number f b o : ℕ) → log.head.number ≡ number → BeginsAs id number f b o (files number)
-      → IsFound id files from records log number f o first
+  pub found_so : (number f b o : ℕ) → head.number ≡ number → BeginsAs id number f b o (files number)
+      → IsFound from head number f o first
   found_so number f b o is begins =
-      let file = files log.head.number in
+      let file = files head.number in
       let begun : HasRecordAt 0 (spelled begins.head) file = subst (λ k. HasRecordAt 0 (spelled begins.head) (files k)) (sym is) begins.here in
       let g = begins.head in
-      let h = log.head in
       let last = log.last.has in
-      let whole : 1 ∷ body (spelled g) ++ drop (0 + length (1 ∷ body (spelled g))) file ≡ 1 ∷ body (spelled h) ++ (blocks log.these ++ last.end) =
-      sym begun.whole ∙ last.whole ∙ ap (λ (l : List ℕ). 1 ∷ l) (append_assoc (body (spelled h)) (blocks log.these) last.end) in
-      let same = first_same (spelled g) (spelled h) (drop (0 + length (1 ∷ body (spelled g))) file) (blocks log.these ++ last.end) begun.short last.short.0 whole in
-      let numbers = same_numbers g h begins.wide log.last.wide same.0 in
+      let whole : 1 ∷ body (spelled g) ++ drop (0 + length (1 ∷ body (spelled g))) file ≡ 1 ∷ body (spelled head) ++ (blocks log.these ++ last.end) =
+      sym begun.whole ∙ last.whole ∙ ap (λ (l : List ℕ). 1 ∷ l) (append_assoc (body (spelled head)) (blocks log.these) last.end) in
+      let same = first_same (spelled g) (spelled head) (drop (0 + length (1 ∷ body (spelled g))) file) (blocks log.these ++ last.end) begun.short last.short.0 whole in
+      let numbers = same_numbers g head begins.wide log.last.wide same.0 in
       record {
         its_number = is;
         its_first = sym numbers.1 ∙ begins.its_first;
@@ -114,20 +113,38 @@ module _ (id : ℕ) (files : Files) (from : Origin) (records : List (List ℕ)) 
         its_least = least_is;
       }
 
+-- ---- the records of the last file
+
+-- how many records stand before the last file
+counted : (id : ℕ) (files : Files) (last : Head) (n f b : ℕ) (front : List (List ℕ)) → AreBefore id files last n f b front → last.first ≡ f + length front
+counted id files last n f b _ (none _ _ _ fol) = omega (arith, fol.its_first)
+counted id files last n f b _ (more _ _ _ h these those fol is rest) =
+    let there = counted id files last (n + 1) (f + length these) (length (files n)) those rest in
+    omega (arith, there, length-append these those)
+
+pub of_last : (id : ℕ) (files : Files) (from : Origin) (head : Head) (records : List (List ℕ)) → IsLog id files from head records → (number : ℕ) (rows : List (List ℕ))
+    → head.number ≡ number → Has rows (files number) → AreOfLast from head records rows
+of_last id files from head records log number rows is has = record {
+  front = log.front;
+  rest = log.these;
+  rows_are = one_way (files head.number) rows (spelled head ∷ log.these) (subst (λ k. Has rows (files k)) (sym is) has) log.last.has;
+  split = log.all;
+  place = counted id files head from.number from.first from.before log.front log.ended;
+}
+
 -- ---- what a crash leaves
 
-module _ (id : ℕ) (files : Files) (from : Origin) (records : List (List ℕ)) (log : IsLog id files from records) where
-  reach : from.number ≤ log.head.number
-  reach = before_le id files log.head from.number from.first from.before log.front log.ended
+module _ (id : ℕ) (files : Files) (from : Origin) (head : Head) (records : List (List ℕ)) (log : IsLog id files from head records) where
+  reach : from.number ≤ head.number
+  reach = before_le id files head from.number from.first from.before log.front log.ended
 
   -- where the files before the last are the same, the last has the same, and none is born behind it, it is the same log
-  pub log_moved : (c : Files) → ((m : ℕ) → m < log.head.number → c m ≡ files m) → Has (spelled log.head ∷ log.these) (c log.head.number)
-      → IsUnborn (c (log.head.number + 1)) → ((m : ℕ) → log.head.number + 1 < m → c m ≡ []) → IsLog id c from records
+  pub log_moved : (c : Files) → ((m : ℕ) → m < head.number → c m ≡ files m) → Has (spelled head ∷ log.these) (c head.number)
+      → IsUnborn (c (head.number + 1)) → ((m : ℕ) → head.number + 1 < m → c m ≡ []) → IsLog id c from head records
   log_moved c same has unborn above = record {
-    head = log.head;
     front = log.front;
     these = log.these;
-    ended = before_same id files c log.head from.number from.first from.before log.front same log.ended;
+    ended = before_same id files c head from.number from.first from.before log.front same log.ended;
     last = record { wide = log.last.wide; some = log.last.some; has = has };
     all = log.all;
     there = log.there;
@@ -136,38 +153,38 @@ module _ (id : ℕ) (files : Files) (from : Origin) (records : List (List ℕ)) 
     none_above = above;
   }
 
-  pub log_same : (c : Files) → ((m : ℕ) → c m ≡ files m) → IsLog id c from records
+  pub log_same : (c : Files) → ((m : ℕ) → c m ≡ files m) → IsLog id c from head records
   log_same c same =
-      log_moved c (λ m lt. same m) (subst (λ f. Has (spelled log.head ∷ log.these) f) (sym (same log.head.number)) log.last.has)
-      (subst IsUnborn (sym (same (log.head.number + 1))) log.unborn) (λ m lt. same m ∙ log.none_above m lt)
+      log_moved c (λ m lt. same m) (subst (λ f. Has (spelled head ∷ log.these) f) (sym (same head.number)) log.last.has)
+      (subst IsUnborn (sym (same (head.number + 1))) log.unborn) (λ m lt. same m ∙ log.none_above m lt)
 
-  module _ (last top : ℕ) (is : log.head.number ≡ last) (at : IsTop files last top) where
-    pub log_trimmed : (c : Files) → IsTrimmed last top files c → IsLog id c from records
+  module _ (last top : ℕ) (is : head.number ≡ last) (at : IsTop files last top) where
+    pub log_trimmed : (c : Files) → IsTrimmed last top files c → IsLog id c from head records
     log_trimmed c trimmed = ⊎_elim kept gone trimmed.here
       where
-        kept : c top ≡ files top → IsLog id c from records
+        kept : c top ≡ files top → IsLog id c from head records
         kept same = log_same c (λ m. elim (cases_eq m top) [
           | inl here ↦ subst (λ k. c k ≡ files k) (sym here) same
           | inr differs ↦ trimmed.others m differs
         ])
 
-        gone : (top ≢ last) × (c top ≡ []) → IsLog id c from records
+        gone : (top ≢ last) × (c top ≡ []) → IsLog id c from head records
         gone both =
-            let next : log.head.number + 1 ≡ top = omega (arith, is, both.0, at.low, at.high) in
+            let next : head.number + 1 ≡ top = omega (arith, is, both.0, at.low, at.high) in
             log_moved c (λ m lt. trimmed.others m (λ here. omega (arith, here, lt, next)))
-            (subst (λ f. Has (spelled log.head ∷ log.these) f) (sym (trimmed.others log.head.number (λ here. omega (arith, here, next)))) log.last.has)
-            (no_file (c (log.head.number + 1)) (ap (λ (k : ℕ). c k) next ∙ both.1))
+            (subst (λ f. Has (spelled head ∷ log.these) f) (sym (trimmed.others head.number (λ here. omega (arith, here, next)))) log.last.has)
+            (no_file (c (head.number + 1)) (ap (λ (k : ℕ). c k) next ∙ both.1))
             (λ m lt. trimmed.others m (λ here. omega (arith, here, next, lt)) ∙ log.none_above m lt)
 
     -- the end of the last file is repaired, once the other is gone
     pub log_repaired : (mid c : Files) (rows : List (List ℕ)) → ((m : ℕ) → m ≢ top → mid m ≡ files m) → (top ≢ last → mid top ≡ []) → Has rows (files last)
-        → Changes last (Has rows) mid c → IsLog id c from records
+        → Changes last (Has rows) mid c → IsLog id c from head records
     log_repaired mid c rows others gone has changes =
-        let rows_are = one_way (files log.head.number) rows (spelled log.head ∷ log.these) (subst (λ k. Has rows (files k)) (sym is) has) log.last.has in
+        let rows_are = one_way (files head.number) rows (spelled head ∷ log.these) (subst (λ k. Has rows (files k)) (sym is) has) log.last.has in
         log_moved c
         (λ m lt. changes.others m (λ here. omega (arith, here, lt, is)) ∙ others m (λ here. omega (arith, here, lt, is, at.low)))
-        (subst (λ k. Has (spelled log.head ∷ log.these) (c k)) (sym is) (subst (λ l. Has l (c last)) rows_are changes.here))
-        (no_file (c (log.head.number + 1)) (clear (log.head.number + 1) (omega (arith, is))))
+        (subst (λ k. Has (spelled head ∷ log.these) (c k)) (sym is) (subst (λ l. Has l (c last)) rows_are changes.here))
+        (no_file (c (head.number + 1)) (clear (head.number + 1) (omega (arith, is))))
         (λ m lt. clear m (omega (arith, lt, is)))
       where
         clear : (m : ℕ) → last < m → c m ≡ []
@@ -212,7 +229,7 @@ last_kept last top files was mid is others kept = sym (elim (cases_eq last top) 
 
 -- ---- the log
 
-module _ {D : Type 0} (seen : D → Files) (may_leave : D → Files → Type 0) (id : ℕ) (base : Files) (from : Origin) (records : List (List ℕ)) (log : IsLog id base from records)
+module _ {D : Type 0} (seen : D → Files) (may_leave : D → Files → Type 0) (id : ℕ) (base : Files) (from : Origin) (head : Head) (records : List (List ℕ)) (log : IsLog id base from head records)
     (disk : D) (number end first oldest least count : ℕ) where
   abbrev at : SegmentState D
   at = record { disk = disk; number = number; end = end; reach = end; broken = false }
@@ -220,17 +237,16 @@ module _ {D : Type 0} (seen : D → Files) (may_leave : D → Files → Type 0) 
   abbrev over : SegmentState D → LogState D
   over segment = record { segment = segment; id = id; first = first; count = count; oldest = oldest; least = least }
 
-  pub opened : (s : SegmentState D) (rows : List (List ℕ)) → s ≡ at → Has rows (base number) → IsFound id base from records log number first oldest least
+  pub opened : (s : SegmentState D) (rows : List (List ℕ)) → s ≡ at → Has rows (base number) → IsFound from head number first oldest least
       → IsStaged seen may_leave disk number end end rows [] → ((m : ℕ) → m < number → seen disk m ≡ base m) → ((m : ℕ) → number < m → seen disk m ≡ [])
-      → count ≡ length rows - 1 → Holds seen may_leave (over s) from records []
+      → count ≡ length rows - 1 → Holds seen may_leave (over s) from head records []
   opened s rows is has found staged below above count_is =
-      let rows_are = one_way (base log.head.number) rows (spelled log.head ∷ log.these) (subst (λ k. Has rows (base k)) (sym found.its_number) has) log.last.has in
-      let low : from.number ≤ number = omega (arith, reach id base from records log, found.its_number) in
-      subst (λ t. Holds seen may_leave (over t) from records []) (sym is) (record {
-        head = log.head;
+      let rows_are = one_way (base head.number) rows (spelled head ∷ log.these) (subst (λ k. Has rows (base k)) (sym found.its_number) has) log.last.has in
+      let low : from.number ≤ number = omega (arith, reach id base from head records log, found.its_number) in
+      subst (λ t. Holds seen may_leave (over t) from head records []) (sym is) (record {
         front = log.front;
         these = log.these;
-        ended = before_same id base (seen disk) log.head from.number from.first from.before log.front (λ m lt. below m (omega (arith, lt, found.its_number))) log.ended;
+        ended = before_same id base (seen disk) head from.number from.first from.before log.front (λ m lt. below m (omega (arith, lt, found.its_number))) log.ended;
         wide = log.last.wide;
         some = log.last.some;
         fresh = tt;

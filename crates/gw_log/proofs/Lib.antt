@@ -11,3 +11,4 @@ pub mod Placing
 pub mod Retiring
 pub mod Founding
 pub mod Denying
+pub mod Alike

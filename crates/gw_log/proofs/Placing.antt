@@ -36,6 +36,26 @@ same_numbers g h wide fits same =
       one_number g.id h.id wide.its_id fits.its_id s5.0,
     )
 
+-- a head is its numbers and its checkpoint
+abbrev pub head_from : (number first before oldest id : ℕ) → List ℕ → Head
+head_from number first before oldest id checkpoint =
+    record { number = number; first = first; before = before; oldest = oldest; id = id; checkpoint = checkpoint }
+
+pub same_heads : (g h : Head) → IsWide g → IsWide h → spelled g ≡ spelled h → g ≡ h
+same_heads g h wide fits same =
+    let are = same_numbers g h wide fits same in
+    let s1 = split g.number h.number _ _ same in
+    let s2 = split g.first h.first _ _ s1.1 in
+    let s3 = split g.before h.before _ _ s2.1 in
+    let s4 = split g.oldest h.oldest _ _ s3.1 in
+    let s5 = split g.id h.id _ _ s4.1 in
+    ap (λ (n : ℕ). head_from n g.first g.before g.oldest g.id g.checkpoint) are.0
+    ∙ ap (λ (n : ℕ). head_from h.number n g.before g.oldest g.id g.checkpoint) are.1
+    ∙ ap (λ (n : ℕ). head_from h.number h.first n g.oldest g.id g.checkpoint) are.2
+    ∙ ap (λ (n : ℕ). head_from h.number h.first h.before n g.id g.checkpoint) are.3
+    ∙ ap (λ (n : ℕ). head_from h.number h.first h.before h.oldest n g.checkpoint) are.4
+    ∙ ap (λ (l : List ℕ). head_from h.number h.first h.before h.oldest h.id l) s5.1
+
 pub one_headed : (id other n m b c : ℕ) (file : List ℕ) → HasHead id n b file → HasHead other m c file → (id ≡ other) × (n ≡ m) × (b ≡ c)
 one_headed id other n m b c file these those =
     let g = these.head in
@@ -86,38 +106,38 @@ next_place id files last these n f b _ is (more _ _ _ h some those fol here rest
   | inr differs ↦ next_place id files last these (n + 1) (f + length some) (length (files n)) those is rest m (omega (arith, le, differs)) lt
 ]
 
-pub first_of : (id : ℕ) (files : Files) (from : Origin) (records : List (List ℕ)) → IsLog id files from records → HasHead id from.number from.before (files from.number)
-first_of id files from records is = first_place id files is.head is.these from.number from.first from.before is.front is.last is.ended
+pub first_of : (id : ℕ) (files : Files) (from : Origin) (head : Head) (records : List (List ℕ)) → IsLog id files from head records → HasHead id from.number from.before (files from.number)
+first_of id files from head records is = first_place id files head is.these from.number from.first from.before is.front is.last is.ended
 
-pub next_of : (id : ℕ) (files : Files) (from : Origin) (records : List (List ℕ)) (is : IsLog id files from records) (n : ℕ) → from.number ≤ n → n < is.head.number
+pub next_of : (id : ℕ) (files : Files) (from : Origin) (head : Head) (records : List (List ℕ)) (is : IsLog id files from head records) (n : ℕ) → from.number ≤ n → n < head.number
     → HasHead id (n + 1) (length (files n)) (files (n + 1))
-next_of id files from records is = next_place id files is.head is.these from.number from.first from.before is.front is.last is.ended
+next_of id files from head records is = next_place id files head is.these from.number from.first from.before is.front is.last is.ended
 
 -- a file with a head has a byte
 not_none : (id n b : ℕ) (file : List ℕ) → HasHead id n b file → file ≡ [] → ⊥
 not_none id n b file head is = omega (arith, ap length (sym is ∙ head.has.whole))
 
 -- each file from the first to the last has a byte
-pub some_there : (id : ℕ) (files : Files) (from : Origin) (records : List (List ℕ)) (is : IsLog id files from records) (n : ℕ) → from.number ≤ n → n ≤ is.head.number
+pub some_there : (id : ℕ) (files : Files) (from : Origin) (head : Head) (records : List (List ℕ)) (is : IsLog id files from head records) (n : ℕ) → from.number ≤ n → n ≤ head.number
     → files n ≡ [] → ⊥
-some_there id files from records is zero le lt here =
+some_there id files from head records is zero le lt here =
     let at : from.number ≡ zero = omega (arith, le) in
-    not_none id from.number from.before (files from.number) (first_of id files from records is) (ap (λ (k : ℕ). files k) at ∙ here)
-some_there id files from records is (suc n) le lt here = elim (cases_eq (suc n) from.number) [
-  | inl same ↦ not_none id from.number from.before (files from.number) (first_of id files from records is) (ap (λ (k : ℕ). files k) (sym same) ∙ here)
+    not_none id from.number from.before (files from.number) (first_of id files from head records is) (ap (λ (k : ℕ). files k) at ∙ here)
+some_there id files from head records is (suc n) le lt here = elim (cases_eq (suc n) from.number) [
+  | inl same ↦ not_none id from.number from.before (files from.number) (first_of id files from head records is) (ap (λ (k : ℕ). files k) (sym same) ∙ here)
   | inr differs ↦
       let one : n + 1 ≡ suc n = omega arith in
       not_none id (n + 1) (length (files n)) (files (n + 1))
-      (next_of id files from records is n (omega (arith, le, differs)) (omega (arith, lt))) (ap (λ (k : ℕ). files k) one ∙ here)
+      (next_of id files from head records is n (omega (arith, le, differs)) (omega (arith, lt))) (ap (λ (k : ℕ). files k) one ∙ here)
 ]
 
-pub gap : (id : ℕ) (files : Files) (from : Origin) (records : List (List ℕ)) (n : ℕ) → IsLog id files from records → files n ≡ [] → files (n + 1) ≢ []
+pub gap : (id : ℕ) (files : Files) (from : Origin) (head : Head) (records : List (List ℕ)) (n : ℕ) → IsLog id files from head records → files n ≡ [] → files (n + 1) ≢ []
     → n < from.number
-gap id files from records n is here next = elim (cases_lt n from.number) [
+gap id files from head records n is here next = elim (cases_lt n from.number) [
   | inl lt ↦ lt
-  | inr below ↦ elim (cases_lt is.head.number n) [
+  | inr below ↦ elim (cases_lt head.number n) [
     | inl above ↦ absurd (next (is.none_above (n + 1) (omega (arith, above))))
-    | inr within ↦ absurd (some_there id files from records is n (omega (arith, below)) (omega (arith, within)) here)
+    | inr within ↦ absurd (some_there id files from head records is n (omega (arith, below)) (omega (arith, within)) here)
   ]
 ]
 
@@ -133,9 +153,8 @@ none_within first last files lt are n = listless (files n) (λ some. let ends = 
 pub created : {D : Type 0} (seen : D → Files) (may_leave : D → Files → Type 0) (t : LogState D) (base : Files) (id : ℕ) (checkpoint : List ℕ) (batch : List (List ℕ))
     → batch ≡ spelled (first_head id checkpoint) ∷ [] → IsWide (first_head id checkpoint) → Stands seen may_leave t.segment batch [] → t.segment.number ≡ 1
     → ((m : ℕ) → base m ≡ []) → ((m : ℕ) → m ≢ 1 → seen t.segment.disk m ≡ base m) → t.id ≡ id → t.first ≡ 0 → t.count ≡ 0 → t.oldest ≡ 1 → t.least ≡ 1
-    → Holds seen may_leave t beginning [] []
+    → Holds seen may_leave t beginning (first_head id checkpoint) [] []
 created seen may_leave t base id checkpoint batch is wide stands number nothing same id_is first count oldest least = record {
-  head = first_head id checkpoint;
   front = [];
   these = [];
   ended = subst (λ k. AreBefore k (seen t.segment.disk) (first_head id checkpoint) 1 0 0 []) (sym id_is)

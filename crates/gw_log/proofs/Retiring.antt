@@ -30,19 +30,19 @@ before_from id files c last n f b _ same (more _ _ _ h these those fol is rest) 
     (subst (λ (l : List ℕ). AreBefore id c last (n + 1) (f + length these) (length l) those) here
     (before_from id files c last (n + 1) (f + length these) (length (files n)) those (λ m le lt. same m (omega (arith, le)) lt) rest))
 
-module _ {D : Type 0} (seen : D → Files) (may_leave : D → Files → Type 0) (s : LogState D) (from : Origin) (records pending : List (List ℕ))
-    (h : Holds seen may_leave s from records pending) (is_least : s.least < s.segment.number) (is_old : s.least < s.oldest) where
+module _ {D : Type 0} (seen : D → Files) (may_leave : D → Files → Type 0) (s : LogState D) (from : Origin) (head : Head) (records pending : List (List ℕ))
+    (h : Holds seen may_leave s from head records pending) (is_least : s.least < s.segment.number) (is_old : s.least < s.oldest) where
   abbrev files : Files
   files = seen s.segment.disk
 
   abbrev mine : List (List ℕ)
-  mine = spelled h.head ∷ h.these
+  mine = spelled head ∷ h.these
 
-  below_last : from.number < h.head.number
+  below_last : from.number < head.number
   below_last = omega (arith, is_least, h.least, h.number)
 
-  rest : Rest s.id files h.head from.number from.first h.front
-  rest = shorten s.id files h.head from.number from.first from.before h.front below_last h.ended
+  rest : Rest s.id files head from.number from.first h.front
+  rest = shorten s.id files head from.number from.first from.before h.front below_last h.ended
 
   abbrev to : Origin
   to = record { number = from.number + 1; first = from.first + length rest.gone; before = length (files from.number) }
@@ -55,14 +55,14 @@ module _ {D : Type 0} (seen : D → Files) (may_leave : D → Files → Type 0) 
     first = refl;
   }
 
-  there : from.number + 1 ≤ h.head.oldest
+  there : from.number + 1 ≤ head.oldest
   there = omega (arith, is_old, h.least, h.oldest)
 
   has_mine : (file : List ℕ) → file ≡ files s.segment.number → Has mine file
   has_mine file is = has_shut mine 0 (drop 1 (at_rest pending)) file (omega arith) h.stands.staged.short (is ∙ h.stands.staged.file)
 
   -- what is there where the first file may be gone
-  pub shortened : (c : Files) → Changes s.least (IsGone (files s.least)) files c → IsLogOrFewer s.id from records c
+  pub shortened : (c : Files) → Changes s.least (IsGone (files s.least)) files c → IsLogOrFewer s.id from head records c
   shortened c changes = by changes.here
     where
       at : s.least ≡ from.number
@@ -71,35 +71,34 @@ module _ {D : Type 0} (seen : D → Files) (may_leave : D → Files → Type 0) 
       others : (m : ℕ) → m ≢ from.number → c m ≡ files m
       others m differs = changes.others m (λ is. differs (is ∙ at))
 
-      last_is : IsLast h.head h.these (c h.head.number)
+      last_is : IsLast head h.these (c head.number)
       last_is = record {
         wide = h.wide;
         some = h.some;
-        has = has_mine (c h.head.number) (others h.head.number (λ is. omega (arith, is, below_last)) ∙ ap (λ (k : ℕ). files k) h.number);
+        has = has_mine (c head.number) (others head.number (λ is. omega (arith, is, below_last)) ∙ ap (λ (k : ℕ). files k) h.number);
       }
 
-      unborn : IsUnborn (c (h.head.number + 1))
-      unborn = no_file (c (h.head.number + 1)) (others (h.head.number + 1) (λ is. omega (arith, is, below_last)) ∙ h.none_above (h.head.number + 1) (omega arith))
+      unborn : IsUnborn (c (head.number + 1))
+      unborn = no_file (c (head.number + 1)) (others (head.number + 1) (λ is. omega (arith, is, below_last)) ∙ h.none_above (head.number + 1) (omega arith))
 
-      above : (m : ℕ) → h.head.number + 1 < m → c m ≡ []
+      above : (m : ℕ) → head.number + 1 < m → c m ≡ []
       above m lt = others m (λ is. omega (arith, is, below_last, lt)) ∙ h.none_above m (omega (arith, lt))
 
-      by : IsGone (files s.least) (c s.least) → IsLogOrFewer s.id from records c
+      by : IsGone (files s.least) (c s.least) → IsLogOrFewer s.id from head records c
       by (inl kept) =
           let all : (m : ℕ) → c m ≡ files m = λ m. elim (cases_eq m from.number) [
             | inl is ↦ ap (λ (k : ℕ). c k) (is ∙ sym at) ∙ kept ∙ ap (λ (k : ℕ). files k) (at ∙ sym is)
             | inr differs ↦ others m differs
           ] in
-          inl (log_as_is seen may_leave s from records pending h c all)
+          inl (log_as_is seen may_leave s from head records pending h c all)
       by (inr gone) = inr (record {
         to = to;
         kept = rest.kept ++ h.these;
         fewer = fewer;
         log = record {
-          head = h.head;
           front = rest.kept;
           these = h.these;
-          ended = before_from s.id files c h.head (from.number + 1) (from.first + length rest.gone) (length (files from.number)) rest.kept
+          ended = before_from s.id files c head (from.number + 1) (from.first + length rest.gone) (length (files from.number)) rest.kept
               (λ m le lt. others m (λ is. omega (arith, is, le))) rest.rest;
           last = last_is;
           all = refl;
@@ -116,7 +115,7 @@ module _ {D : Type 0} (seen : D → Files) (may_leave : D → Files → Type 0) 
   -- and then the log holds the others
   pub retired : (t : LogState D) → Stands seen may_leave t.segment mine pending → t.segment.number ≡ s.segment.number
       → Changes s.least (λ file. file ≡ []) files (seen t.segment.disk) → t.id ≡ s.id → t.first ≡ s.first → t.count ≡ s.count → t.oldest ≡ s.oldest
-      → t.least ≡ s.least + 1 → HasRetired seen may_leave t from records pending
+      → t.least ≡ s.least + 1 → HasRetired seen may_leave t from head records pending
   retired t stands number changes id first count oldest least =
       let c = seen t.segment.disk in
       let others : (m : ℕ) → m ≢ from.number → c m ≡ files m = λ m differs. changes.others m (λ is. differs (is ∙ sym h.least)) in
@@ -125,11 +124,10 @@ module _ {D : Type 0} (seen : D → Files) (may_leave : D → Files → Type 0) 
         kept = rest.kept ++ h.these;
         fewer = fewer;
         holds = record {
-          head = h.head;
           front = rest.kept;
           these = h.these;
-          ended = subst (λ k. AreBefore k c h.head (from.number + 1) (from.first + length rest.gone) (length (files from.number)) rest.kept) (sym id)
-              (before_from s.id files c h.head (from.number + 1) (from.first + length rest.gone) (length (files from.number)) rest.kept
+          ended = subst (λ k. AreBefore k c head (from.number + 1) (from.first + length rest.gone) (length (files from.number)) rest.kept) (sym id)
+              (before_from s.id files c head (from.number + 1) (from.first + length rest.gone) (length (files from.number)) rest.kept
               (λ m le lt. others m (λ is. omega (arith, is, le))) rest.rest);
           wide = h.wide;
           some = h.some;

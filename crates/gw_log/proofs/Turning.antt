@@ -6,11 +6,12 @@ use Rattle.sha2.proofs.Facts256.{length-sha256}
 use Rattle.gw_log.specs.Disk.{Files, Changes, Only, LeavesOnly}
 use Rattle.gw_log.specs.File.{item, body, blocks, AreShort, Has, HasEither, HasOrIs}
 use Rattle.gw_log.specs.State.{staged, IsStaged, Stands, SegmentState}
-use Rattle.gw_log.specs.Chain.{Head, spelled, IsEnded, Follows, AreBefore, none, more, IsUnborn, Origin, IsLog, LogState, Holds, IsEither}
+use Rattle.gw_log.specs.Chain.{Head, spelled, IsWide, IsEnded, Follows, AreBefore, none, more, IsUnborn, Origin, IsLog, LogState, Holds, IsEither, IsEitherOrNext, LeavesGoing, next_head}
 use Rattle.gw_log.specs.own.Turns.{Turns, IsNext, HasTurned}
 use Rattle.gw_log.proofs.Crash.{has_shut}
 use Rattle.gw_log.proofs.Ends.{short-append, blocks-append}
 use Rattle.gw_log.proofs.Logs.{before_same, no_file, log_with, from_le}
+use Rattle.gw_log.proofs.Placing.{head_from}
 
 empty_short : length (item []) < 2 ^ 32
 empty_short = omega (arith, length-append (sha256 []) [], length-sha256 [])
@@ -91,13 +92,17 @@ snoc id files last next n f b _ these (more _ _ _ h some those fol ended rest) i
     subst (λ l. AreBefore id files next n f b l) (sym (append_assoc some those these))
     (more n f b h some (those ++ these) fol ended (snoc id files last next (n + 1) (f + length some) (length (files n)) those these rest is follows))
 
-module _ {D : Type 0} (seen : D → Files) (may_leave : D → Files → Type 0) (s : LogState D) (from : Origin) (records : List (List ℕ))
-    (h : Holds seen may_leave s from records []) (oldest : ℕ) (batch : List (List ℕ)) (next : IsNext s oldest batch) (le : s.oldest ≤ oldest) where
+module _ {D : Type 0} (seen : D → Files) (may_leave : D → Files → Type 0) (s : LogState D) (from : Origin) (head : Head) (records : List (List ℕ))
+    (h : Holds seen may_leave s from head records []) (oldest : ℕ) (checkpoint : List ℕ) (batch : List (List ℕ)) (next : IsNext s oldest checkpoint batch)
+    (le : s.oldest ≤ oldest) where
+  abbrev behind : Head
+  behind = next_head s oldest checkpoint
+
   abbrev old : Files
   old = seen s.segment.disk
 
   abbrev mine : List (List ℕ)
-  mine = spelled h.head ∷ h.these
+  mine = spelled head ∷ h.these
 
   end_is : (file : List ℕ) → file ≡ blocks (mine ++ [] ∷ []) ++ 0 ∷ [] → length file ≡ s.segment.reach + 38
   end_is file is =
@@ -114,7 +119,7 @@ module _ {D : Type 0} (seen : D → Files) (may_leave : D → Files → Type 0) 
         st.reaches,
       )
 
-  ended_so : (c : Files) → c s.segment.number ≡ blocks (mine ++ [] ∷ []) ++ 0 ∷ [] → IsEnded h.head h.these (c h.head.number)
+  ended_so : (c : Files) → c s.segment.number ≡ blocks (mine ++ [] ∷ []) ++ 0 ∷ [] → IsEnded head h.these (c head.number)
   ended_so c is = record {
     wide = h.wide;
     some = h.some;
@@ -123,92 +128,89 @@ module _ {D : Type 0} (seen : D → Files) (may_leave : D → Files → Type 0) 
   }
 
   follows_so : (c : Files) → c s.segment.number ≡ blocks (mine ++ [] ∷ []) ++ 0 ∷ []
-      → Follows s.id (h.head.number + 1) (h.head.first + length h.these) (length (c h.head.number)) next.head
+      → Follows s.id (head.number + 1) (head.first + length h.these) (length (c head.number)) behind
   follows_so c is = record {
-    its_id = next.id;
-    its_number = omega (arith, next.number, h.number);
-    its_first = omega (arith, next.first, h.first, h.count);
-    its_before = next.before ∙ sym (end_is (c h.head.number) (ap (λ (k : ℕ). c k) h.number ∙ is));
+    its_id = refl;
+    its_number = omega (arith, h.number);
+    its_first = omega (arith, h.first, h.count);
+    its_before = sym (end_is (c head.number) (ap (λ (k : ℕ). c k) h.number ∙ is));
   }
 
-  all_before : (c : Files) → ((m : ℕ) → m < h.head.number → c m ≡ old m) → c s.segment.number ≡ blocks (mine ++ [] ∷ []) ++ 0 ∷ []
-      → AreBefore s.id c next.head from.number from.first from.before (h.front ++ h.these)
+  all_before : (c : Files) → ((m : ℕ) → m < head.number → c m ≡ old m) → c s.segment.number ≡ blocks (mine ++ [] ∷ []) ++ 0 ∷ []
+      → AreBefore s.id c behind from.number from.first from.before (h.front ++ h.these)
   all_before c same is =
-      snoc s.id c h.head next.head from.number from.first from.before h.front h.these
-      (before_same s.id old c h.head from.number from.first from.before h.front same h.ended) (ended_so c is) (follows_so c is)
+      snoc s.id c head behind from.number from.first from.before h.front h.these
+      (before_same s.id old c head from.number from.first from.before h.front same h.ended) (ended_so c is) (follows_so c is)
 
-  short_batch : AreShort batch → AreShort (spelled next.head ∷ [])
+  short_batch : AreShort batch → AreShort (spelled behind ∷ [])
   short_batch fits = subst AreShort next.batch_is fits
 
-  number_is : h.head.number + 1 ≡ s.segment.number + 1
+  number_is : head.number + 1 ≡ s.segment.number + 1
   number_is = ap (λ (k : ℕ). k + 1) h.number
 
-  -- while it goes on, a crash leaves the same log
-  pub log_then : (c : Files) → Turns s.segment.number mine batch old c → IsLog s.id c from records
-  log_then c turns = subst (λ l. IsLog s.id c from l) (sym h.all) (by turns.either)
+  -- while it goes on, a crash leaves the same log, with its head or the next one
+  pub log_then : (c : Files) → Turns s.segment.number mine batch old c → IsLog s.id c from head records ⊎ IsLog s.id c from behind records
+  log_then c turns = by turns.either
     where
-      below : (m : ℕ) → m < h.head.number → c m ≡ old m
+      below : (m : ℕ) → m < head.number → c m ≡ old m
       below m lt = turns.others m (λ is. omega (arith, is, h.number, lt)) (λ is. omega (arith, is, h.number, lt))
 
-      above : (m : ℕ) → h.head.number + 1 < m → c m ≡ []
+      above : (m : ℕ) → head.number + 1 < m → c m ≡ []
       above m lt = turns.others m (λ is. omega (arith, is, h.number, lt)) (λ is. omega (arith, is, h.number, lt)) ∙ h.none_above m (omega (arith, lt))
 
       unborn : (file : List ℕ) → HasEither [] batch file → IsUnborn file
       unborn file (inl has) = record { records = []; has = has; at_most = omega arith }
       unborn file (inr has) = record { records = batch; has = has; at_most = omega (arith, ap length next.batch_is) }
 
-      there : from.number ≤ next.head.oldest
-      there = omega (arith, h.there, h.oldest, next.its_oldest, le)
+      there : from.number ≤ behind.oldest
+      there = omega (arith, h.there, h.oldest, le)
 
       by : (Has mine (c s.segment.number) × HasEither [] batch (c (s.segment.number + 1)))
-          ⊎ ((c s.segment.number ≡ blocks (mine ++ [] ∷ []) ++ 0 ∷ []) × (c (s.segment.number + 1) ≡ blocks batch ++ 0 ∷ []) × AreShort batch) → IsLog s.id c from (h.front ++ h.these)
-      by (inl first) =
-          log_with seen may_leave s from records [] h c h.these
+          ⊎ ((c s.segment.number ≡ blocks (mine ++ [] ∷ []) ++ 0 ∷ []) × (c (s.segment.number + 1) ≡ blocks batch ++ 0 ∷ []) × AreShort batch) → IsLog s.id c from head records ⊎ IsLog s.id c from behind records
+      by (inl first) = inl (
+          subst (λ l. IsLog s.id c from head l) (sym h.all) (log_with seen may_leave s from head records [] h c h.these
           (record { wide = h.wide; some = h.some; has = subst (λ n. Has mine (c n)) (sym h.number) first.0 }) below
-          (subst (λ n. IsUnborn (c n)) (sym number_is) (unborn (c (s.segment.number + 1)) first.1)) above
+          (subst (λ n. IsUnborn (c n)) (sym number_is) (unborn (c (s.segment.number + 1)) first.1)) above))
       by (inr second) =
-          let number : next.head.number ≡ h.head.number + 1 = omega (arith, next.number, h.number) in
-          let file : c next.head.number ≡ blocks (spelled next.head ∷ []) ++ 0 ∷ [] =
-          ap (λ (k : ℕ). c k) next.number ∙ second.1 ∙ ap (λ (l : List (List ℕ)). blocks l ++ 0 ∷ []) next.batch_is in
-          record {
-            head = next.head;
+          let number : behind.number ≡ head.number + 1 = omega (arith, h.number) in
+          let file : c behind.number ≡ blocks (spelled behind ∷ []) ++ 0 ∷ [] =
+          second.1 ∙ ap (λ (l : List (List ℕ)). blocks l ++ 0 ∷ []) next.batch_is in
+          inr (record {
             front = h.front ++ h.these;
             these = [];
             ended = all_before c below second.0;
-            last = record { wide = next.wide; some = tt; has = has_shut (spelled next.head ∷ []) 0 [] (c next.head.number) (omega arith) (short_batch second.2) file };
-            all = sym (append-nil (h.front ++ h.these));
+            last = record { wide = next.wide; some = tt; has = has_shut (spelled behind ∷ []) 0 [] (c behind.number) (omega arith) (short_batch second.2) file };
+            all = h.all ∙ sym (append-nil (h.front ++ h.these));
             there = there;
-            none_below = λ m lt. below m (omega (arith, lt, from_le seen may_leave s from records [] h)) ∙ h.none_below m lt;
-            unborn = no_file (c (next.head.number + 1)) (above (next.head.number + 1) (omega (arith, number)));
+            none_below = λ m lt. below m (omega (arith, lt, from_le seen may_leave s from head records [] h)) ∙ h.none_below m lt;
+            unborn = no_file (c (behind.number + 1)) (above (behind.number + 1) (omega (arith, number)));
             none_above = λ m lt. above m (omega (arith, lt, number));
-          }
+          })
 
-  -- and then the log holds the same
+  -- and then the log holds the same, with the next head
   pub holds_then : (t : LogState D) → Stands seen may_leave t.segment batch [] → t.segment.number ≡ s.segment.number + 1
       → seen t.segment.disk s.segment.number ≡ blocks (mine ++ [] ∷ []) ++ 0 ∷ []
       → ((m : ℕ) → m ≢ s.segment.number → m ≢ s.segment.number + 1 → seen t.segment.disk m ≡ old m) → t.id ≡ s.id → t.first ≡ s.first + s.count → t.count ≡ 0
-      → t.oldest ≡ oldest → t.least ≡ s.least → Holds seen may_leave t from records []
+      → t.oldest ≡ oldest → t.least ≡ s.least → Holds seen may_leave t from behind records []
   holds_then t stands number file same id first count old_is least =
       let c = seen t.segment.disk in
-      let below : (m : ℕ) → m < h.head.number → c m ≡ old m = λ m lt. same m (λ is. omega (arith, is, h.number, lt)) (λ is. omega (arith, is, h.number, lt)) in
+      let below : (m : ℕ) → m < head.number → c m ≡ old m = λ m lt. same m (λ is. omega (arith, is, h.number, lt)) (λ is. omega (arith, is, h.number, lt)) in
       record {
-        head = next.head;
         front = h.front ++ h.these;
         these = [];
-        ended = subst (λ k. AreBefore k c next.head from.number from.first from.before (h.front ++ h.these)) (sym id) (all_before c below file);
+        ended = subst (λ k. AreBefore k c behind from.number from.first from.before (h.front ++ h.these)) (sym id) (all_before c below file);
         wide = next.wide;
         some = tt;
         fresh = tt;
         stands = subst (λ l. Stands seen may_leave t.segment l []) next.batch_is stands;
-        number = next.number ∙ sym number;
+        number = sym number;
         all = h.all ∙ sym (append-nil (h.front ++ h.these));
-        there = omega (arith, h.there, h.oldest, next.its_oldest, le);
-        none_below = λ m lt. below m (omega (arith, lt, from_le seen may_leave s from records [] h)) ∙ h.none_below m lt;
-        none_above = λ m lt. same m (λ is. omega (arith, is, next.number, lt)) (λ is. omega (arith, is, next.number, lt))
-            ∙ h.none_above m (omega (arith, lt, next.number, h.number));
-        first = next.first ∙ sym first;
+        there = omega (arith, h.there, h.oldest, le);
+        none_below = λ m lt. below m (omega (arith, lt, from_le seen may_leave s from head records [] h)) ∙ h.none_below m lt;
+        none_above = λ m lt. same m (λ is. omega (arith, is, lt)) (λ is. omega (arith, is, lt)) ∙ h.none_above m (omega (arith, lt, h.number));
+        first = sym first;
         count = count;
-        oldest = next.its_oldest ∙ sym old_is;
+        oldest = sym old_is;
         least = h.least ∙ sym least;
       }
 
@@ -257,19 +259,68 @@ has_turned seen may_leave old new begun closed k size these next staged_next fir
       };
     }
 
-pub right_side : (id other : ℕ) (from : Origin) (these all : List (List ℕ)) (c : Files) → other ≡ id → IsLog other c from all → IsEither id from these all c
-right_side id other from these all c is log = inr (subst (λ n. IsLog n c from all) is log)
+-- ---- the next head
 
-pub next_given : {D : Type 0} (s v : LogState D) (oldest : ℕ) (batch given : List (List ℕ)) → v ≡ s → given ≡ batch → IsNext s oldest batch → IsNext v oldest given
-next_given s v oldest batch given is same next = subst (λ t. IsNext t oldest given) (sym is) (subst (λ b. IsNext s oldest b) (sym same) next)
+-- the batch that is spelled is its head
+pub next_spelled : {D : Type 0} (s : LogState D) (number size oldest : ℕ) (checkpoint : List ℕ) (batch : List (List ℕ)) → number ≡ s.segment.number → size ≡ s.segment.reach
+    → batch ≡ spelled (head_from (number + 1) (s.first + s.count) (size + 37 + 1) oldest s.id checkpoint) ∷ []
+    → IsWide (head_from (number + 1) (s.first + s.count) (size + 37 + 1) oldest s.id checkpoint) → IsNext s oldest checkpoint batch
+next_spelled s number size oldest checkpoint batch number_is size_is spelled_is wide =
+    let before : size + 37 + 1 ≡ s.segment.reach + 38 = omega (arith, size_is) in
+    let same : head_from (number + 1) (s.first + s.count) (size + 37 + 1) oldest s.id checkpoint ≡ next_head s oldest checkpoint =
+    ap (λ (n : ℕ). head_from (n + 1) (s.first + s.count) (size + 37 + 1) oldest s.id checkpoint) number_is
+    ∙ ap (λ (n : ℕ). head_from (s.segment.number + 1) (s.first + s.count) n oldest s.id checkpoint) before in
+    record { batch_is = spelled_is ∙ ap (λ (h : Head). spelled h ∷ []) same; wide = subst IsWide same wide }
 
-pub nothing_next : {D : Type 0} (seen : D → Files) (may_leave : D → Files → Type 0) (s : LogState D) (from : Origin) (records pending : List (List ℕ))
-    → Holds seen may_leave s from records pending → seen s.segment.disk (s.segment.number + 1) ≡ []
-nothing_next seen may_leave s from records pending h = h.none_above (s.segment.number + 1) (omega (arith, h.number))
+pub next_given : {D : Type 0} (s v : LogState D) (oldest : ℕ) (checkpoint : List ℕ) (batch given : List (List ℕ)) → v ≡ s → given ≡ batch → IsNext s oldest checkpoint batch
+    → IsNext v oldest checkpoint given
+next_given s v oldest checkpoint batch given is same next =
+    subst (λ t. IsNext t oldest checkpoint given) (sym is) (subst (λ b. IsNext s oldest checkpoint b) (sym same) next)
 
-pub holds_as : {D : Type 0} (seen : D → Files) (may_leave : D → Files → Type 0) (s v : LogState D) (from : Origin) (records pending : List (List ℕ)) → v ≡ s
-    → Holds seen may_leave s from records pending → Holds seen may_leave v from records pending
-holds_as seen may_leave s v from records pending is h = subst (λ t. Holds seen may_leave t from records pending) (sym is) h
+pub nothing_next : {D : Type 0} (seen : D → Files) (may_leave : D → Files → Type 0) (s : LogState D) (from : Origin) (head : Head) (records pending : List (List ℕ))
+    → Holds seen may_leave s from head records pending → seen s.segment.disk (s.segment.number + 1) ≡ []
+nothing_next seen may_leave s from head records pending h = h.none_above (s.segment.number + 1) (omega (arith, h.number))
+
+pub holds_as : {D : Type 0} (seen : D → Files) (may_leave : D → Files → Type 0) (s v : LogState D) (from : Origin) (head : Head) (records pending : List (List ℕ)) → v ≡ s
+    → Holds seen may_leave s from head records pending → Holds seen may_leave v from head records pending
+holds_as seen may_leave s v from head records pending is h = subst (λ t. Holds seen may_leave t from head records pending) (sym is) h
+
+module _ {D : Type 0} (seen : D → Files) (may_leave : D → Files → Type 0) (moment : D → ℕ) (left_since : D → ℕ → Files → Type 0) (old new : LogState D) (checkpoint : List ℕ)
+    (n m : ℕ) (is : n ≡ m) where
+  pub going_as : LeavesGoing seen may_leave moment left_since old new (next_head old n checkpoint)
+      → LeavesGoing seen may_leave moment left_since old new (next_head old m checkpoint)
+  going_as going = subst (λ k. LeavesGoing seen may_leave moment left_since old new (next_head old k checkpoint)) is going
+
+  pub goes_as : (from : Origin) (all : List (List ℕ)) → Holds seen may_leave new from (next_head old n checkpoint) all []
+      → Holds seen may_leave new from (next_head old m checkpoint) all []
+  goes_as from all h = subst (λ k. Holds seen may_leave new from (next_head old k checkpoint) all []) is h
+
+-- it is the same before what was pending was settled
+pub next_same : {D : Type 0} (s t v : LogState D) (oldest : ℕ) (checkpoint : List ℕ) → v ≡ t → t ≡ record s { segment = t.segment }
+    → t.segment.reach ≡ s.segment.reach → t.segment.number ≡ s.segment.number → next_head v oldest checkpoint ≡ next_head s oldest checkpoint
+next_same {D} s t v oldest checkpoint is kept size number =
+    let first : t.first ≡ s.first = ap (λ (l : LogState D). l.first) kept in
+    let count : t.count ≡ s.count = ap (λ (l : LogState D). l.count) kept in
+    let id : t.id ≡ s.id = ap (λ (l : LogState D). l.id) kept in
+    let all : t.first + t.count ≡ s.first + s.count = omega (arith, first, count) in
+    ap (λ (l : LogState D). next_head l oldest checkpoint) is
+    ∙ ap (λ (n : ℕ). head_from (n + 1) (t.first + t.count) (t.segment.reach + 38) oldest t.id checkpoint) number
+    ∙ ap (λ (n : ℕ). head_from (s.segment.number + 1) n (t.segment.reach + 38) oldest t.id checkpoint) all
+    ∙ ap (λ (n : ℕ). head_from (s.segment.number + 1) (s.first + s.count) (n + 38) oldest t.id checkpoint) size
+    ∙ ap (λ (n : ℕ). head_from (s.segment.number + 1) (s.first + s.count) (s.segment.reach + 38) oldest n checkpoint) id
+
+pub goes_either : (id : ℕ) (from : Origin) (head next : Head) (these all : List (List ℕ)) (c : Files) → IsEither id from head these all c
+    → IsEitherOrNext id from head next these all c
+goes_either id from head next these all c is = inl is
+
+pub goes_all : (id other : ℕ) (from : Origin) (head next its : Head) (these all : List (List ℕ)) (c : Files) → other ≡ id → its ≡ next
+    → IsLog other c from head all ⊎ IsLog other c from its all → IsEitherOrNext id from head next these all c
+goes_all id other from head next its these all c is same (inl log) = inl (inr (subst (λ n. IsLog n c from head all) is log))
+goes_all id other from head next its these all c is same (inr log) = inr (subst (λ n. IsLog n c from next all) is (subst (λ h. IsLog other c from h all) same log))
+
+pub holds_next : {D : Type 0} (seen : D → Files) (may_leave : D → Files → Type 0) (s : LogState D) (from : Origin) (next its : Head) (records : List (List ℕ)) → its ≡ next
+    → Holds seen may_leave s from its records [] → Holds seen may_leave s from next records []
+holds_next seen may_leave s from next its records is h = subst (λ n. Holds seen may_leave s from n records []) is h
 
 pub leaves_as : {D : Type 0} (moment : D → ℕ) (left_since : D → ℕ → Files → Type 0) (old : D) (s v : LogState D) (P : Files → Type 0) → v ≡ s
     → LeavesOnly moment left_since old s.segment.disk P → LeavesOnly moment left_since old v.segment.disk P

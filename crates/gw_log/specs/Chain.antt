@@ -79,9 +79,9 @@ pub record IsLast (h : Head) (records : List (List ℕ)) (file : List ℕ) : Typ
   pub some : AreSome records
   pub has : Has (spelled h ∷ records) file
 
--- The files of a folder are the log of this number from an origin on, with these records. No file is missing, but for those that may be gone
-pub record IsLog (id : ℕ) (files : Files) (from : Origin) (records : List (List ℕ)) : Type 0 where
-  pub head : Head
+-- The files of a folder are the log of this number from an origin on, with this head of the last file, and with these records.
+-- No file is missing, but for those that may be gone
+pub record IsLog (id : ℕ) (files : Files) (from : Origin) (head : Head) (records : List (List ℕ)) : Type 0 where
   pub front : List (List ℕ)
   pub these : List (List ℕ)
   pub ended : AreBefore id files head from.number from.first from.before front
@@ -94,7 +94,7 @@ pub record IsLog (id : ℕ) (files : Files) (from : Origin) (records : List (Lis
 
 -- the files of a folder are no log of this number
 abbrev pub IsNoLog : ℕ → Files → Type 0
-IsNoLog id files = (from : Origin) (records : List (List ℕ)) → IsLog id files from records → ⊥
+IsNoLog id files = (from : Origin) (head : Head) (records : List (List ℕ)) → IsLog id files from head records → ⊥
 
 -- A log that is open: the segment over its last file, the log's number, how many records stand before that file and in it,
 -- below which number files may be gone, and the least number of one that is there
@@ -106,9 +106,9 @@ pub record LogState (D : Type 0) : Type 0 where
   pub oldest : ℕ
   pub least : ℕ
 
--- The log has these records, on the disk whatever crash comes, and these pending
-pub record Holds {D : Type 0} (seen : D → Files) (may_leave : D → Files → Type 0) (s : LogState D) (from : Origin) (records pending : List (List ℕ)) : Type 0 where
-  pub head : Head
+-- The log has this head of its last file and these records, on the disk whatever crash comes, and these pending
+pub record Holds {D : Type 0} (seen : D → Files) (may_leave : D → Files → Type 0) (s : LogState D) (from : Origin) (head : Head)
+    (records pending : List (List ℕ)) : Type 0 where
   pub front : List (List ℕ)
   pub these : List (List ℕ)
   pub ended : AreBefore s.id (seen s.segment.disk) head from.number from.first from.before front
@@ -126,31 +126,48 @@ pub record Holds {D : Type 0} (seen : D → Files) (may_leave : D → Files → 
   pub oldest : head.oldest ≡ s.oldest
   pub least : from.number ≡ s.least
 
--- a log of these records or of those
-abbrev pub IsEither : ℕ → Origin → List (List ℕ) → List (List ℕ) → Files → Type 0
-IsEither id from these those files = IsLog id files from these ⊎ IsLog id files from those
+-- a log of these records, or of those, with this head
+abbrev pub IsEither : ℕ → Origin → Head → List (List ℕ) → List (List ℕ) → Files → Type 0
+IsEither id from head these those files = IsLog id files from head these ⊎ IsLog id files from head those
+
+-- such a log, or one of the latter records with the next head
+abbrev pub IsEitherOrNext : ℕ → Origin → (head next : Head) → List (List ℕ) → List (List ℕ) → Files → Type 0
+IsEitherOrNext id from head next these those files = IsEither id from head these those files ⊎ IsLog id files from next those
 
 -- what the folder is a log of, the log holds
 abbrev pub HoldsAll : {D : Type 0} → (D → Files) → (D → Files → Type 0) → ℕ → D → LogState D → Type 0
 HoldsAll seen may_leave id disk s =
-    (from : Origin) (records : List (List ℕ)) → IsLog id (seen disk) from records → Holds seen may_leave s from records []
+    (from : Origin) (head : Head) (records : List (List ℕ)) → IsLog id (seen disk) from head records → Holds seen may_leave s from head records []
 
--- a crash at any moment since then leaves a log of the same records
+-- a crash at any moment since then leaves a log of the same head and records
 abbrev pub LeavesLog : {D : Type 0} → (D → Files) → (D → ℕ) → (D → ℕ → Files → Type 0) → ℕ → D → D → Type 0
 LeavesLog seen moment left_since id old new =
-    (from : Origin) (records : List (List ℕ)) → IsLog id (seen old) from records → LeavesOnly moment left_since old new (λ c. IsLog id c from records)
+    (from : Origin) (head : Head) (records : List (List ℕ)) → IsLog id (seen old) from head records
+    → LeavesOnly moment left_since old new (λ c. IsLog id c from head records)
 
--- at `Ok` all that was pending counts, whatever crash comes, and these are pending
+-- at `Ok` all that was pending counts, whatever crash comes, and these are pending. The head is the same
 abbrev pub Commits : {D T E : Type 0} → (D → Files) → (D → Files → Type 0) → LogState D → LogState D → List (List ℕ) → Result T E → Type 0
 Commits seen may_leave old new pending result =
-    (from : Origin) (these those : List (List ℕ)) → Holds seen may_leave old from these those
-    → OnOk result (Holds seen may_leave new from (these ++ those) pending)
+    (from : Origin) (head : Head) (these those : List (List ℕ)) → Holds seen may_leave old from head these those
+    → OnOk result (Holds seen may_leave new from head (these ++ those) pending)
 
--- a crash at any moment since then leaves a log of what counted, or of that with all that was pending
+-- a crash at any moment since then leaves a log of what counted, or of that with all that was pending, with the same head
 abbrev pub LeavesCounted : {D : Type 0} → (D → Files) → (D → Files → Type 0) → (D → ℕ) → (D → ℕ → Files → Type 0) → LogState D → LogState D → Type 0
 LeavesCounted seen may_leave moment left_since old new =
-    (from : Origin) (these those : List (List ℕ)) → Holds seen may_leave old from these those
-    → LeavesOnly moment left_since old.segment.disk new.segment.disk (IsEither old.id from these (these ++ those))
+    (from : Origin) (head : Head) (these those : List (List ℕ)) → Holds seen may_leave old from head these those
+    → LeavesOnly moment left_since old.segment.disk new.segment.disk (IsEither old.id from head these (these ++ those))
+
+-- at `Ok` all that was pending counts, whatever crash comes, and the head is this one
+abbrev pub GoesOn : {D T E : Type 0} → (D → Files) → (D → Files → Type 0) → LogState D → LogState D → Head → Result T E → Type 0
+GoesOn seen may_leave old new next result =
+    (from : Origin) (head : Head) (these those : List (List ℕ)) → Holds seen may_leave old from head these those
+    → OnOk result (Holds seen may_leave new from next (these ++ those) [])
+
+-- A crash at any moment since then leaves a log of what counted, or of that with all that was pending. The head is the same; or it is the next one, and all counts
+abbrev pub LeavesGoing : {D : Type 0} → (D → Files) → (D → Files → Type 0) → (D → ℕ) → (D → ℕ → Files → Type 0) → LogState D → LogState D → Head → Type 0
+LeavesGoing seen may_leave moment left_since old new next =
+    (from : Origin) (head : Head) (these those : List (List ℕ)) → Holds seen may_leave old from head these those
+    → LeavesOnly moment left_since old.segment.disk new.segment.disk (IsEitherOrNext old.id from head next these (these ++ those))
 
 -- the head of a log's first file, and where a log begins that is new
 abbrev pub first_head : ℕ → List ℕ → Head
@@ -158,6 +175,17 @@ first_head id checkpoint = record { number = 1; first = 0; before = 0; oldest = 
 
 abbrev pub beginning : Origin
 beginning = record { number = 1; first = 0; before = 0 }
+
+-- The head of the file behind the last one. The last one is 38 bytes longer once it is ended: by an empty record, and a closed gate
+abbrev pub next_head : {D : Type 0} → LogState D → (oldest : ℕ) → List ℕ → Head
+next_head s oldest checkpoint = record {
+  number = s.segment.number + 1;
+  first = s.first + s.count;
+  before = s.segment.reach + 38;
+  oldest = oldest;
+  id = s.id;
+  checkpoint = checkpoint;
+}
 
 -- the file begins with a head of this log and number, which follows on so long a file
 pub record HasHead (id number before : ℕ) (file : List ℕ) : Type 0 where
@@ -190,31 +218,32 @@ pub record IsFewer (from : Origin) (records : List (List ℕ)) (to : Origin) (ke
   pub first : to.first ≡ from.first + length gone
 
 -- the log holds those that are left, each at its place
-pub record HasRetired {D : Type 0} (seen : D → Files) (may_leave : D → Files → Type 0) (s : LogState D) (from : Origin) (records pending : List (List ℕ)) : Type 0 where
+pub record HasRetired {D : Type 0} (seen : D → Files) (may_leave : D → Files → Type 0) (s : LogState D) (from : Origin) (head : Head)
+    (records pending : List (List ℕ)) : Type 0 where
   pub to : Origin
   pub kept : List (List ℕ)
   pub fewer : IsFewer from records to kept
-  pub holds : Holds seen may_leave s to kept pending
+  pub holds : Holds seen may_leave s to head kept pending
 
--- a log of those that are left
-pub record IsShortened (id : ℕ) (from : Origin) (records : List (List ℕ)) (files : Files) : Type 0 where
+-- a log of those that are left, with the same head
+pub record IsShortened (id : ℕ) (from : Origin) (head : Head) (records : List (List ℕ)) (files : Files) : Type 0 where
   pub to : Origin
   pub kept : List (List ℕ)
   pub fewer : IsFewer from records to kept
-  pub log : IsLog id files to kept
+  pub log : IsLog id files to head kept
 
 -- a log of these records, or of those that are left
-abbrev pub IsLogOrFewer : ℕ → Origin → List (List ℕ) → Files → Type 0
-IsLogOrFewer id from records files = IsLog id files from records ⊎ IsShortened id from records files
+abbrev pub IsLogOrFewer : ℕ → Origin → Head → List (List ℕ) → Files → Type 0
+IsLogOrFewer id from head records files = IsLog id files from head records ⊎ IsShortened id from head records files
 
 -- where the answer is true, the records of the first file are gone, and the others are held, with those that are pending
 abbrev pub Retires : {D E : Type 0} → (D → Files) → (D → Files → Type 0) → LogState D → LogState D → Result Bool E → Type 0
 Retires seen may_leave old new result =
-    (from : Origin) (these those : List (List ℕ)) → Holds seen may_leave old from these those
-    → IfOk result (λ done. IsTrue done → HasRetired seen may_leave new from these those)
+    (from : Origin) (head : Head) (these those : List (List ℕ)) → Holds seen may_leave old from head these those
+    → IfOk result (λ done. IsTrue done → HasRetired seen may_leave new from head these those)
 
 -- a crash at any moment since then leaves the log as it was, or without the records of the first file
 abbrev pub LeavesFewer : {D : Type 0} → (D → Files) → (D → Files → Type 0) → (D → ℕ) → (D → ℕ → Files → Type 0) → LogState D → LogState D → Type 0
 LeavesFewer seen may_leave moment left_since old new =
-    (from : Origin) (these those : List (List ℕ)) → Holds seen may_leave old from these those
-    → LeavesOnly moment left_since old.segment.disk new.segment.disk (IsLogOrFewer old.id from these)
+    (from : Origin) (head : Head) (these those : List (List ℕ)) → Holds seen may_leave old from head these those
+    → LeavesOnly moment left_since old.segment.disk new.segment.disk (IsLogOrFewer old.id from head these)

@@ -1,5 +1,5 @@
 -- What a file of a log has: the records that are synced.
-use Rattle.std.specs.Prelude.{◌≡◌, ◌≢◌, ◌⊎◌, ⊤, ℕ, ◌<◌, ◌^◌, ◌+◌, List, [], ◌∷◌, ◌++◌, length, drop, Result, IsErrOf}
+use Rattle.std.specs.Prelude.{◌≡◌, ◌≢◌, ◌⊎◌, ⊤, ℕ, ◌<◌, ◌≤◌, ◌^◌, ◌+◌, List, [], ◌∷◌, ◌++◌, length, drop, Result, IsErrOf}
 use Rattle.std.specs.Int.{w32, to_be_bytes}
 use Rattle.std.specs.List.{AllByRecursion}
 use Rattle.sha2.specs.Sha256.{sha256}
@@ -23,6 +23,10 @@ blocks (bytes ∷ records) = 1 ∷ body bytes ++ blocks records
 -- each length fits its four bytes
 abbrev pub AreShort : List (List ℕ) → Type 0
 AreShort records = AllByRecursion (λ bytes. length (item bytes) < 2 ^ 32) records
+
+-- no record has more than 2,147,483,648 bytes
+abbrev pub AreInLimit : List (List ℕ) → Type 0
+AreInLimit records = AllByRecursion (λ bytes. length bytes ≤ 2 ^ 31) records
 
 -- What a crash may leave of a write that was not synced, and no damage: nothing, a lone gate, or a gate that is not open before any bytes
 abbrev pub IsUnsynced : List ℕ → Type 0

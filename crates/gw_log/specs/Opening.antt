@@ -2,7 +2,7 @@
 use Rattle.std.specs.Prelude.{◌≡◌, ℕ, ◌+◌, ◌<◌, ◌≤◌, List, [], ◌∷◌, ◌++◌, length}
 use Rattle.gw_log.specs.Disk.{Files}
 use Rattle.gw_log.specs.File.{HasRecordAt}
-use Rattle.gw_log.specs.Chain.{Head, spelled, IsWide, LogState}
+use Rattle.gw_log.specs.Chain.{Head, spelled, IsWide, Origin, IsLog, LogState}
 
 -- the file begins with a head of this log and number, which says these
 pub record BeginsAs (id number first before oldest : ℕ) (file : List ℕ) : Type 0 where
@@ -18,6 +18,19 @@ pub record BeginsAs (id number first before oldest : ℕ) (file : List ℕ) : Ty
 -- the last file of a log begins with the head that its state tells
 abbrev pub HasItsHead : {D : Type 0} → (D → Files) → ℕ → D → LogState D → Type 0
 HasItsHead seen id disk s = (before : ℕ) × BeginsAs id s.segment.number s.first before s.oldest (seen disk s.segment.number)
+
+-- These rows are the records of a log's last file: its head, and then the log's own, from the place on that the head says
+pub record AreOfLast (from : Origin) (head : Head) (records rows : List (List ℕ)) : Type 0 where
+  pub front : List (List ℕ)
+  pub rest : List (List ℕ)
+  pub rows_are : rows ≡ spelled head ∷ rest
+  pub split : records ≡ front ++ rest
+  pub place : head.first ≡ from.first + length front
+
+-- of whatever log the folder is, these rows are the records of the last file
+abbrev pub GivesLast : {D : Type 0} → (D → Files) → ℕ → D → List (List ℕ) → Type 0
+GivesLast seen id disk rows =
+    (from : Origin) (head : Head) (records : List (List ℕ)) → IsLog id (seen disk) from head records → AreOfLast from head records rows
 
 -- it begins with one that follows on a file of this length
 pub record IsPlaced (id number before : ℕ) (file : List ℕ) : Type 0 where

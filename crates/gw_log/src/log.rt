@@ -58,6 +58,7 @@ fn test_batch(count: u64, batch: &[Vec<u8>]) -> Result<(), LogFault>
     ensures some { OnOk result (AreSome (records_of batch.now)) }
     ensures full { IsErrOf result LogFault.Full → 2 ^ 62 ≤ count }
     ensures empty { IsErrOf result LogFault.Empty → AreSome (records_of batch.now) → ⊥ }
+    ensures long { IsErrOf result LogFault.TooLong → ⊥ }
 {
     if count >= MOST {
         return Err(LogFault::Full);
@@ -81,6 +82,7 @@ fn head_alone<D: Disk>(
     ensures seen { D.seen disk.new ≡ D.seen disk.old }
     ensures durable { Only (D.seen disk.old) (D.may_leave disk.old) →
         Only (D.seen disk.new) (D.may_leave disk.new) }
+    ensures taken { D.honest disk.new → IsErrOf result LogFault.Taken → ((number : ℕ) → D.seen disk.old number ≡ []) → ⊥ }
     ensures back { D.honest disk.new → D.honest disk.old }
 {
     let (first, last) = disk.ends()?;
@@ -99,11 +101,12 @@ fn head_alone<D: Disk>(
 }
 
 impl<D: Disk> Log<D> {
-    ghost use Rattle.std.specs.Prelude.{◌≡◌, ◌⊎◌, ◌+◌, ◌-◌, ◌<◌, ◌≤◌, ◌^◌, min, [], true, ℕ, IsFalse, IsErrOf, IfOk, IfErr, OnOk, OnErr};
-    ghost use Rattle.gw_log.specs.Chain.{AreSome, Holds, HoldsAll, IsNoLog, LeavesLog, Commits, LeavesCounted, Retires, LeavesFewer, beginning};
+    ghost use Rattle.std.specs.Prelude.{◌≡◌, ◌⊎◌, ◌+◌, ◌-◌, ◌<◌, ◌≤◌, ◌^◌, min, max, [], true, ℕ, IsFalse, IsErrOf, IfOk, IfErr, OnOk, OnErr, length};
+    ghost use Rattle.gw_log.specs.Chain.{AreSome, Holds, HoldsAll, IsNoLog, LeavesLog, Commits, LeavesCounted, GoesOn, LeavesGoing};
+    ghost use Rattle.gw_log.specs.Chain.{Retires, LeavesFewer, beginning, first_head, next_head};
     ghost use Rattle.gw_log.specs.own.Turns.{IsNext};
-    ghost use Rattle.gw_log.specs.File.{Has};
-    ghost use Rattle.gw_log.specs.Opening.{HasItsHead, AreLinked, IsSealed};
+    ghost use Rattle.gw_log.specs.File.{Has, AreInLimit};
+    ghost use Rattle.gw_log.specs.Opening.{HasItsHead, GivesLast, AreLinked, IsSealed};
     ghost use Rattle.gw_log.specs.Disk.{Only};
     ghost use Rattle.gw_log.specs.State.{records_of};
 
@@ -117,8 +120,14 @@ impl<D: Disk> Log<D> {
         // After a restart, what is read is what is on the disk.
         requires { Only (D.seen disk) (D.may_leave disk) }
         ensures ok { IfOk result (λ log.
-            D.honest log.segment.disk → Holds D.seen D.may_leave log beginning [] []) }
+            D.honest log.segment.disk →
+            Holds D.seen D.may_leave log beginning (first_head id checkpoint.now) [] []) }
         ensures id { IfOk result (λ log. log.id ≡ id) }
+
+        // `Taken` comes only where a file has a byte, and leaves the folder as it was.
+        ensures taken { IfErr result (λ e. D.honest e.1 → e.0 ≡ LogFault.Taken → ((n : ℕ) → D.seen disk n ≡ []) → ⊥) }
+        ensures untouched { IfErr result (λ e. e.0 ≡ LogFault.Taken → Only (D.seen disk) (D.may_leave e.1)) }
+        ensures seen { IfErr result (λ e. e.0 ≡ LogFault.Taken → D.seen e.1 ≡ D.seen disk) }
         ensures back { IfOk result (λ log. D.honest log.segment.disk → D.honest disk) }
     {
         let mut disk = disk;
@@ -152,6 +161,9 @@ impl<D: Disk> Log<D> {
         ensures id { IfOk result (λ r. r.0.id ≡ id) }
         ensures last { IfOk result (λ r. D.honest r.0.segment.disk →
             Has (records_of r.1.items) (D.seen disk r.0.segment.number)) }
+        // The records that it returns are the last file's: its head, and all from the place on that the head says.
+        ensures records { IfOk result (λ r. D.honest r.0.segment.disk →
+            GivesLast D.seen id disk (records_of r.1.items)) }
         // No file is missing, cut, exchanged or another log's, and the last one isn't ended.
         ensures linked { IfOk result (λ r. D.honest r.0.segment.disk →
             AreLinked id (D.seen disk) r.0.least r.0.segment.number) }
@@ -207,6 +219,7 @@ impl<D: Disk> Log<D> {
         ensures full { IsErrOf result LogFault.Full →
             (2 ^ 62 ≤ self.old.count) ⊎ (2 ^ 60 ≤ self.old.segment.reach) }
         ensures empty { IsErrOf result LogFault.Empty → AreSome (records_of batch.now) → ⊥ }
+        ensures long { IsErrOf result LogFault.TooLong → AreInLimit (records_of batch.now) → ⊥ }
 
         // A crash at any moment leaves a log of what counted, or of that with all that was pending.
         ensures any_moment { LeavesCounted D.seen D.may_leave D.moment D.left_since self.old self.new }
@@ -224,6 +237,10 @@ impl<D: Disk> Log<D> {
         ensures err { OnErr result (self.new.segment.broken ≡ true) }
         ensures any_moment { LeavesCounted D.seen D.may_leave D.moment D.left_since self.old self.new }
         ensures kept { self.new ≡ record self.old { segment = self.new.segment } }
+        ensures full { IsErrOf result LogFault.Full → ⊥ }
+        ensures long { IsErrOf result LogFault.TooLong → ⊥ }
+        ensures size { self.new.segment.reach ≡ self.old.segment.reach }
+        ensures number { self.new.segment.number ≡ self.old.segment.number }
         ensures back { D.honest self.new.segment.disk → D.honest self.old.segment.disk }
     {
         self.segment.settle()?;
@@ -232,8 +249,12 @@ impl<D: Disk> Log<D> {
 
     // The head of the file behind the last one, as a batch.
     fn next_head(&self, oldest: u64, checkpoint: &[u8]) -> Result<Vec<Vec<u8>>, LogFault>
-        ensures ok { IfOk result (λ out. IsNext self.now oldest (records_of out.items)) }
+        ensures ok { IfOk result (λ out. IsNext self.now oldest checkpoint.now (records_of out.items)) }
         ensures room { OnOk result (self.now.segment.number < 2 ^ 62) }
+        ensures full { IsErrOf result LogFault.Full →
+            (2 ^ 62 ≤ self.now.segment.number) ⊎ (2 ^ 62 ≤ self.now.first)
+            ⊎ (2 ^ 63 ≤ self.now.count) ⊎ (2 ^ 60 ≤ self.now.segment.reach) }
+        ensures long { IsErrOf result LogFault.TooLong → ⊥ }
     {
         let (number, size) = (self.segment.number(), self.segment.size());
         if number >= MOST || self.first >= MOST || self.count >= 2 * MOST || size >= LONGEST {
@@ -253,8 +274,14 @@ impl<D: Disk> Log<D> {
     // Goes on to the next file.
     fn go_on(&mut self, oldest: u64, checkpoint: &[u8]) -> Result<(), LogFault>
         requires { self.old.oldest ≤ oldest }
-        ensures ok { Commits D.seen D.may_leave self.old self.new [] result }
-        ensures any_moment { LeavesCounted D.seen D.may_leave D.moment D.left_since self.old self.new }
+        ensures ok { GoesOn D.seen D.may_leave self.old self.new
+            (next_head self.old oldest checkpoint.now) result }
+        ensures any_moment { LeavesGoing D.seen D.may_leave D.moment D.left_since self.old self.new
+            (next_head self.old oldest checkpoint.now) }
+        ensures full { IsErrOf result LogFault.Full →
+            (2 ^ 62 ≤ self.old.segment.number) ⊎ (2 ^ 62 ≤ self.old.first)
+            ⊎ (2 ^ 63 ≤ self.old.count) ⊎ (2 ^ 60 ≤ self.old.segment.reach) }
+        ensures long { IsErrOf result LogFault.TooLong → 2 ^ 31 < length checkpoint.now + 40 }
         ensures back { D.honest self.new.segment.disk → D.honest self.old.segment.disk }
     {
         self.settle()?;
@@ -269,9 +296,17 @@ impl<D: Disk> Log<D> {
 
     /// Ends the last file, once all that is pending counts, and begins the next one, whose head has this checkpoint and says below which number files may go.
     pub fn begin_next(&mut self, oldest: u64, checkpoint: &[u8]) -> Result<(), LogFault>
-        ensures ok { Commits D.seen D.may_leave self.old self.new [] result }
+        ensures ok { GoesOn D.seen D.may_leave self.old self.new
+            (next_head self.old (max oldest self.old.oldest) checkpoint.now) result }
         ensures err { OnErr result (self.new.segment.broken ≡ true) }
-        ensures any_moment { LeavesCounted D.seen D.may_leave D.moment D.left_since self.old self.new }
+        ensures full { IsErrOf result LogFault.Full →
+            (2 ^ 62 ≤ self.old.segment.number) ⊎ (2 ^ 62 ≤ self.old.first)
+            ⊎ (2 ^ 63 ≤ self.old.count) ⊎ (2 ^ 60 ≤ self.old.segment.reach) }
+        ensures long { IsErrOf result LogFault.TooLong → 2 ^ 31 < length checkpoint.now + 40 }
+
+        // A crash at any moment leaves a log with the old head, or all records with the new one.
+        ensures any_moment { LeavesGoing D.seen D.may_leave D.moment D.left_since self.old self.new
+            (next_head self.old (max oldest self.old.oldest) checkpoint.now) }
         ensures back { D.honest self.new.segment.disk → D.honest self.old.segment.disk }
     {
         match self.go_on(oldest.max(self.oldest), checkpoint) {

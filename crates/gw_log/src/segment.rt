@@ -96,7 +96,7 @@ impl<D: Disk> Segment<D> {
     ghost use Rattle.std.specs.Prelude.{◌≡◌, ◌≢◌, ◌⊎◌, ◌+◌, ◌<◌, ◌≤◌, ◌^◌, ◌∷◌, [], true, false, ℕ, length};
     ghost use Rattle.std.specs.Prelude.{IfOk, IfErr, IsErrOf, OnOk, OnErr};
     ghost use Rattle.gw_log.specs.Disk.{Changes, LeavesOnly, Only};
-    ghost use Rattle.gw_log.specs.File.{Has, HasEither, HasOrIs, KeepsRecords, IsDamagedAt};
+    ghost use Rattle.gw_log.specs.File.{Has, HasEither, HasOrIs, AreInLimit, KeepsRecords, IsDamagedAt};
     ghost use Rattle.gw_log.specs.State.{Stands, Secures, LeavesFile, records_of};
     ghost use Rattle.gw_log.specs.own.Turns.{IfAlone, LeavesTurn, Ends, Turned};
     ghost use Rattle.gw_log.specs.own.Steps.{LeavesBegun, Spares, LeavesRemoved};
@@ -171,6 +171,7 @@ impl<D: Disk> Segment<D> {
         ensures any_moment { IfOk result (λ s.
             LeavesBegun D.seen D.moment D.left_since number (records_of records.now) disk s.disk) }
         ensures others { IfOk result (λ s. (other : ℕ) → other ≢ number → D.seen s.disk other ≡ D.seen disk other) }
+        ensures taken { IfErr result (λ e. e.0 ≡ LogFault.Taken → ⊥) }
         ensures back { IfOk result (λ s. D.honest s.disk → D.honest disk) }
     {
         let mut disk = disk;
@@ -201,6 +202,8 @@ impl<D: Disk> Segment<D> {
         ensures any_moment { LeavesTurn D.seen D.may_leave D.moment D.left_since
             self.old self.new (records_of next.now) }
         ensures number { self.new.number ≡ self.old.number }
+        ensures full { IsErrOf result LogFault.Full → 2 ^ 60 ≤ self.old.reach }
+        ensures long { IsErrOf result LogFault.TooLong → AreInLimit (records_of next.now) → ⊥ }
         ensures back { D.honest self.new.disk → D.honest self.old.disk }
     {
         let bytes = spell(self.alloc, next)?;
@@ -222,6 +225,8 @@ impl<D: Disk> Segment<D> {
         ensures number { OnOk result (self.new.number ≡ self.old.number + 1) }
         ensures any_moment { LeavesTurn D.seen D.may_leave D.moment D.left_since
             self.old self.new (records_of next.now) }
+        ensures full { IsErrOf result LogFault.Full → 2 ^ 60 ≤ self.old.reach }
+        ensures long { IsErrOf result LogFault.TooLong → AreInLimit (records_of next.now) → ⊥ }
         ensures back { D.honest self.new.disk → D.honest self.old.disk }
     {
         let size = self.turn(next, end)?;
@@ -274,6 +279,7 @@ impl<D: Disk> Segment<D> {
         ensures number { self.new.number ≡ self.old.number }
         ensures full { IsErrOf result LogFault.Full → 2 ^ 60 ≤ self.old.reach }
         ensures empty { IsErrOf result LogFault.Empty → ⊥ }
+        ensures long { IsErrOf result LogFault.TooLong → AreInLimit (records_of batch.now) → ⊥ }
 
         // A crash at any moment leaves what counted, or that with all that was pending.
         ensures any_moment { LeavesFile D.seen D.may_leave D.moment D.left_since HasEither self.old self.new }
@@ -309,6 +315,9 @@ impl<D: Disk> Segment<D> {
         ensures ok { Secures D.seen D.may_leave self.old self.new [] result }
         ensures err { OnErr result (self.new.broken ≡ true) }
         ensures number { self.new.number ≡ self.old.number }
+        ensures size { self.new.reach ≡ self.old.reach }
+        ensures full { IsErrOf result LogFault.Full → ⊥ }
+        ensures long { IsErrOf result LogFault.TooLong → ⊥ }
         ensures any_moment { LeavesFile D.seen D.may_leave D.moment D.left_since HasOrIs self.old self.new }
         ensures others { OnOk result ((other : ℕ) → other ≢ self.old.number →
             D.seen self.new.disk other ≡ D.seen self.old.disk other) }

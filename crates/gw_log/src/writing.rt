@@ -1,6 +1,6 @@
 //! Records as bytes.
 ghost use Rattle.std.specs.Prelude.{◌≡◌, ◌<◌, ◌≤◌, ◌^◌, ◌++◌, ◌∷◌, length, IfOk, OnOk, IsErrOf};
-ghost use Rattle.gw_log.specs.File.{AreShort, body, item};
+ghost use Rattle.gw_log.specs.File.{AreShort, AreInLimit, body, item};
 ghost use Rattle.gw_log.specs.State.{at_rest, records_of};
 
 use crate::digest::{DIGEST, digest_of};
@@ -39,6 +39,8 @@ fn spell_one(out: &mut Vec<u8>, bytes: &[u8]) -> Result<(), LogFault>
     ensures err { IsErrOf result LogFault.Device → ⊥ }
     ensures room { IsErrOf result LogFault.Full → ⊥ }
     ensures empty { IsErrOf result LogFault.Empty → ⊥ }
+    ensures taken { IsErrOf result LogFault.Taken → ⊥ }
+    ensures long { IsErrOf result LogFault.TooLong → 2 ^ 31 < length bytes.now }
 {
     if bytes.len() > LONGEST {
         return Err(LogFault::TooLong);
@@ -54,6 +56,8 @@ pub(crate) fn spell(alloc: Global, records: &[Vec<u8>]) -> Result<Vec<u8>, LogFa
     ensures err { IsErrOf result LogFault.Device → ⊥ }
     ensures room { IsErrOf result LogFault.Full → ⊥ }
     ensures empty { IsErrOf result LogFault.Empty → ⊥ }
+    ensures taken { IsErrOf result LogFault.Taken → ⊥ }
+    ensures long { IsErrOf result LogFault.TooLong → AreInLimit (records_of records.now) → ⊥ }
 {
     let mut out = Vec::new(alloc);
     for bytes in records {

@@ -1,7 +1,7 @@
 -- The steps in which a log is opened.
 use Rattle.std.specs.Prelude.{◌≡◌, ◌≢◌, ◌⊎◌, ℕ, ◌+◌, ◌<◌, ◌≤◌, List, []}
 use Rattle.gw_log.specs.Disk.{Files, Only, LeavesOnly, AreEnds}
-use Rattle.gw_log.specs.Chain.{Origin, IsLog, HasHead}
+use Rattle.gw_log.specs.Chain.{Head, Origin, IsLog, HasHead}
 
 -- A run of calls that only reads: the files are the same, and a crash leaves no more than before it, at any moment
 pub record Reads {D : Type 0} (seen : D → Files) (may_leave : D → Files → Type 0) (moment : D → ℕ) (left_since : D → ℕ → Files → Type 0) (honest : D → Type 0) (old new : D) : Type 0 where
@@ -21,21 +21,21 @@ LeavesTrimmed seen may_leave moment left_since last top old new =
     Only (seen old) (may_leave old) → LeavesOnly moment left_since old new (IsTrimmed last top (seen old))
 
 -- the folder's last file, what its head says, and the least number of a file are these
-pub record IsFound (id : ℕ) (files : Files) (from : Origin) (records : List (List ℕ)) (log : IsLog id files from records) (number first oldest least : ℕ) : Type 0 where
-  pub its_number : log.head.number ≡ number
-  pub its_first : log.head.first ≡ first
-  pub its_oldest : log.head.oldest ≡ oldest
+pub record IsFound (from : Origin) (head : Head) (number first oldest least : ℕ) : Type 0 where
+  pub its_number : head.number ≡ number
+  pub its_first : head.first ≡ first
+  pub its_oldest : head.oldest ≡ oldest
   pub its_least : from.number ≡ least
 
 -- whatever log the folder is
 abbrev pub Finds : (id : ℕ) → Files → (number first oldest least : ℕ) → Type 0
 Finds id files number first oldest least =
-    (from : Origin) (records : List (List ℕ)) (log : IsLog id files from records) → IsFound id files from records log number first oldest least
+    (from : Origin) (head : Head) (records : List (List ℕ)) → IsLog id files from head records → IsFound from head number first oldest least
 
 -- of whatever log the folder is, from this file to that one, this is the last
 abbrev pub IsLastOf : (first top n : ℕ) → Files → Type 0
 IsLastOf first top n files =
-    (id : ℕ) (from : Origin) (records : List (List ℕ)) (log : IsLog id files from records) → AreEnds first top files → log.head.number ≡ n
+    (id : ℕ) (from : Origin) (head : Head) (records : List (List ℕ)) → IsLog id files from head records → AreEnds first top files → head.number ≡ n
 
 -- no file but that of the top number stands behind the last one, and that next to it
 pub record IsTop (files : Files) (last top : ℕ) : Type 0 where
@@ -50,9 +50,9 @@ HasNoHead id number file = (before : ℕ) → HasHead id number before file → 
 -- the folder is no log whose files go from the first to the last
 abbrev pub IsNoLogOf : (id first last : ℕ) → Files → Type 0
 IsNoLogOf id first last files =
-    (from : Origin) (records : List (List ℕ)) (log : IsLog id files from records) → from.number ≡ first → log.head.number ≡ last → ⊥
+    (from : Origin) (head : Head) (records : List (List ℕ)) → IsLog id files from head records → from.number ≡ first → head.number ≡ last → ⊥
 
 -- nor, with files from the first to the top, one of any number
 abbrev pub IsNoLogUpTo : (first top : ℕ) → Files → Type 0
 IsNoLogUpTo first top files =
-    (id : ℕ) (from : Origin) (records : List (List ℕ)) → IsLog id files from records → AreEnds first top files → ⊥
+    (id : ℕ) (from : Origin) (head : Head) (records : List (List ℕ)) → IsLog id files from head records → AreEnds first top files → ⊥

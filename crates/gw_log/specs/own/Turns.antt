@@ -3,7 +3,7 @@ use Rattle.std.specs.Prelude.{◌≡◌, ◌≢◌, ◌⊎◌, false, ℕ, ◌+�
 use Rattle.gw_log.specs.Disk.{Files, LeavesOnly}
 use Rattle.gw_log.specs.File.{blocks, AreShort, Has, HasEither}
 use Rattle.gw_log.specs.State.{SegmentState, IsStaged, Stands}
-use Rattle.gw_log.specs.Chain.{Head, spelled, IsWide, LogState}
+use Rattle.gw_log.specs.Chain.{spelled, IsWide, LogState, next_head}
 
 -- The file of this number is being ended, and the next one begun with these records. Either the first isn't ended yet and the second has none of them or all,
 -- or the first is ended and the second has them all
@@ -41,12 +41,6 @@ LeavesTurn seen may_leave moment left_since old new next =
     IfAlone seen may_leave old (λ these. LeavesOnly moment left_since old.disk new.disk (Turns old.number these next (seen old.disk)))
 
 -- the head of the file behind that of a log, as a batch
-pub record IsNext {D : Type 0} (s : LogState D) (oldest : ℕ) (batch : List (List ℕ)) : Type 0 where
-  pub head : Head
-  pub batch_is : batch ≡ spelled head ∷ []
-  pub wide : IsWide head
-  pub number : head.number ≡ s.segment.number + 1
-  pub first : head.first ≡ s.first + s.count
-  pub before : head.before ≡ s.segment.reach + 38
-  pub its_oldest : head.oldest ≡ oldest
-  pub id : head.id ≡ s.id
+pub record IsNext {D : Type 0} (s : LogState D) (oldest : ℕ) (checkpoint : List ℕ) (batch : List (List ℕ)) : Type 0 where
+  pub batch_is : batch ≡ spelled (next_head s oldest checkpoint) ∷ []
+  pub wide : IsWide (next_head s oldest checkpoint)

@@ -2,4 +2,4 @@ use Rattle.gw_log.proofs.Placing.{gap}
 use Rattle.gw_log.proofs.laws.no_gap.Goals as goal
 
 pub returns : goal.returns
-returns c = λ id files from records n log is. gap id files from records n log is.none is.next
+returns c = λ id files from head records n log is. gap id files from head records n log is.none is.next

@@ -5,29 +5,29 @@ use Rattle.gw_log.proofs.Denying.{handed_on, first_has, next_has, size_is, oldes
 use Rattle.gw_log.proofs.opening.linked.Goals as goal
 
 pub returns-in_err-place-clause-damaged : goal.returns-in_err-place-clause-damaged
-returns-in_err-place-clause-damaged g c = λ honest segment at fault from records log start end.
-    first_has _ _ _ _ log _ _ start end
+returns-in_err-place-clause-damaged g c = λ honest segment at fault from head records log start end.
+    first_has _ _ _ _ _ log _ _ start end
     (c.in_err-place.ensures.damaged honest segment at (handed_on c.from_residual.result _ _ c.from_residual.ensures fault))
 
 pub returns-in_err-next-clause-damaged : goal.returns-in_err-next-clause-damaged
-returns-in_err-next-clause-damaged g c = λ honest segment at fault from records log start end.
+returns-in_err-next-clause-damaged g c = λ honest segment at fault from head records log start end.
     let is = c.loop-number.invariant in
     let next = c.in_err-next.ensures.damaged honest segment at
     (handed_on c.from_residual-in_err-next.result _ _ c.from_residual-in_err-next.ensures fault) in
-    next_has _ _ _ _ log _ _ start end c.loop-number.number is.low c.loop-number-test.true
+    next_has _ _ _ _ _ log _ _ start end c.loop-number.number is.low c.loop-number-test.true
     (no_head_same c.args.id (c.loop-number.number + 1) _ _ (c.size.ensures.seen ∙ is.reads.same) next)
 
 pub returns-then-next-size-clause-damaged : goal.returns-then-next-size-clause-damaged
-returns-then-next-size-clause-damaged g c = λ honest segment at fault from records log start end.
+returns-then-next-size-clause-damaged g c = λ honest segment at fault from head records log start end.
     let is = c.loop-number.invariant in
     let size = c.in_ok-size.ensures.size (c.head_of-in-loop-number.ensures.reads.back honest)
     ∙ ap (λ (f : Files). length (f c.loop-number.number)) is.reads.same in
-    let before = size_is _ _ _ _ log _ _ start end c.loop-number.number _ _ _ is.low c.loop-number-test.true
+    let before = size_is _ _ _ _ _ log _ _ start end c.loop-number.number _ _ _ is.low c.loop-number-test.true
     (begins_same _ _ _ _ _ _ _ (c.size.ensures.seen ∙ is.reads.same) (c.in_ok-next.ensures.begins honest)) in
     omega (arith, c.if-next-size.true, before, size)
 
 pub returns-then-place-first-clause-damaged : goal.returns-then-place-first-clause-damaged
-returns-then-place-first-clause-damaged g c = λ honest segment at fault from records log start end.
+returns-then-place-first-clause-damaged g c = λ honest segment at fault from head records log start end.
     let is = c.loop-number.invariant in
     let here : c.loop-number.number ≡ c.args.last = omega (arith, is.high, c.loop-number-test.false) in
-    oldest_is _ _ _ _ log _ _ start end c.loop-number.number _ _ _ here (is.begins honest) c.if-place-first.true
+    oldest_is _ _ _ _ _ log _ _ start end c.loop-number.number _ _ _ here (is.begins honest) c.if-place-first.true
