@@ -1,12 +1,12 @@
 -- What events do to a journal, and its storage with it.
-use Rattle.std.proofs.Common.{◌≡◌, ℕ, zero, suc, ◌+◌, ◌-◌, ◌≤◌, ◌<◌, ◌^◌, max, List, [], ◌∷◌, ◌++◌, length, take, drop, Option, None, Some, slice_get, refl, ap, sym, ◌∙◌, subst, arith, append_assoc, length-append}
+use Rattle.std.proofs.Common.{◌≡◌, ℕ, zero, suc, ◌+◌, ◌-◌, ◌≤◌, ◌<◌, ◌^◌, max, List, [], ◌∷◌, ◌++◌, length, take, drop, Option, None, Some, slice_get, refl, ap, sym, ◌∙◌, subst, arith, append_assoc, length-append, take-append-drop}
 use Rattle.std.specs.Prelude.{IfSome, Vec}
 use Rattle.std.specs.declared.alloc.Global.{Global}
 use Rattle.std.proofs.lemmas.List.{map-append, length-map}
 use mathlib.Core.List.{IsPrefix}
 use Rattle.gw_journal.specs.declared.event.Event.{Event}
-use Rattle.gw_journal.specs.declared.event.Event.TheVariants.{Put, Synced}
-use Rattle.gw_journal.specs.Logs.{Log, opened, next, after, log_in, records_of, IsLater, IsAt, IsStored, Fits, AreFit, Keeps, Outlives, AllStand, IsTrue, IsJob, IsDone, JobState}
+use Rattle.gw_journal.specs.declared.event.Event.TheVariants.{Put, Synced, Read}
+use Rattle.gw_journal.specs.Logs.{Log, opened, next, after, log_in, records_of, IsLater, IsAt, IsStored, Fits, AreFit, Keeps, AllStand, IsTrue, IsDone, JobState}
 
 -- ---- lists
 
@@ -14,7 +14,7 @@ append_nil : {A : Type 0} (xs : List A) → xs ++ [] ≡ xs
 append_nil [] = refl
 append_nil (x ∷ xs) = ap (λ l. x ∷ l) (append_nil xs)
 
-take_front : {A : Type 0} (n : ℕ) (xs ys : List A) → n ≤ length xs → take n (xs ++ ys) ≡ take n xs
+pub take_front : {A : Type 0} (n : ℕ) (xs ys : List A) → n ≤ length xs → take n (xs ++ ys) ≡ take n xs
 take_front zero [] ys le = refl
 take_front zero (x ∷ xs) ys le = refl
 take_front (suc n) [] ys le = absurd (omega arith)
@@ -26,7 +26,7 @@ drop_front (suc n) [] ys le = absurd (omega arith)
 drop_front (suc n) (x ∷ xs) ys le = drop_front n xs ys (omega arith)
 
 -- the first and those behind them, up to a number
-joined : {A : Type 0} (m n : ℕ) (xs : List A) → m ≤ n → take m xs ++ drop m (take n xs) ≡ take n xs
+pub joined : {A : Type 0} (m n : ℕ) (xs : List A) → m ≤ n → take m xs ++ drop m (take n xs) ≡ take n xs
 joined zero n [] le = refl
 joined zero n (x ∷ xs) le = refl
 joined (suc m) zero xs le = absurd (omega arith)
@@ -39,7 +39,7 @@ none_past zero (x ∷ xs) = refl
 none_past (suc n) [] = refl
 none_past (suc n) (x ∷ xs) = none_past n xs
 
-take_all : {A : Type 0} (xs : List A) → take (length xs) xs ≡ xs
+pub take_all : {A : Type 0} (xs : List A) → take (length xs) xs ≡ xs
 take_all [] = refl
 take_all (x ∷ xs) = ap (λ l. x ∷ l) (take_all xs)
 
@@ -52,7 +52,7 @@ length_drop zero xs = omega arith
 length_drop (suc n) [] = omega arith
 length_drop (suc n) (x ∷ xs) = let e = length_drop n xs in omega (arith, e)
 
-get_front : {A : Type 0} (xs ys : List A) (k : ℕ) (x : A) → slice_get xs k ≡ Some x → slice_get (xs ++ ys) k ≡ Some x
+pub get_front : {A : Type 0} (xs ys : List A) (k : ℕ) (x : A) → slice_get xs k ≡ Some x → slice_get (xs ++ ys) k ≡ Some x
 get_front [] ys k x e = absurd (cc)
 get_front (z ∷ xs) ys zero x e = e
 get_front (z ∷ xs) ys (suc k) x e = get_front xs ys k x e
@@ -61,7 +61,7 @@ get_last : {A : Type 0} (xs : List A) (x : A) → slice_get (xs ++ x ∷ []) (le
 get_last [] x = refl
 get_last (z ∷ xs) x = get_last xs x
 
-get_take : {A : Type 0} (n : ℕ) (xs : List A) (k : ℕ) (x : A) → k < n → slice_get xs k ≡ Some x → slice_get (take n xs) k ≡ Some x
+pub get_take : {A : Type 0} (n : ℕ) (xs : List A) (k : ℕ) (x : A) → k < n → slice_get xs k ≡ Some x → slice_get (take n xs) k ≡ Some x
 get_take zero xs k x less e = absurd (omega arith)
 get_take (suc n) [] k x less e = absurd (cc)
 get_take (suc n) (z ∷ xs) zero x less e = e
@@ -80,6 +80,10 @@ after_more log (x ∷ xs) ys = after_more (next log x) xs ys
 pub log_more : (before : List (List ℕ)) (old new : List Event) (e : Event) → new ≡ old ++ e ∷ [] → log_in before new ≡ next (log_in before old) e
 log_more before old new e is = ap (log_in before) is ∙ after_more (opened before) old (e ∷ [])
 
+-- what was read changes nothing
+pub log_read : (before : List (List ℕ)) (old new : List Event) (place : ℕ) (bytes : List ℕ) → new ≡ old ++ Read place bytes ∷ [] → log_in before new ≡ log_in before old
+log_read before old new place bytes is = log_more before old new (Read place bytes) is
+
 max_least : (a b : ℕ) → a ≤ max a b
 max_least a b = omega arith
 
@@ -93,6 +97,7 @@ later_after log (Put bytes ∷ events) =
 later_after log (Synced count ∷ events) =
     let l = later_after (next log (Synced count)) events in
     record { more = l.more; records = l.records; synced = omega (arith, l.synced, max_least log.synced count) }
+later_after log (Read place bytes ∷ events) = later_after log events
 
 pub log_later : (before : List (List ℕ)) (old new : List Event) → IsPrefix old new → IsLater (log_in before old) (log_in before new)
 log_later before old new p =
@@ -177,22 +182,52 @@ module _ {S : Type 0} (stands : S → List (List ℕ) → List (List ℕ) → Ty
       ap (λ (l : Log). slice_get l.records place) (log_more before old new (Put bytes) is)
       ∙ ap (λ n. slice_get (log.records ++ bytes ∷ []) n) whole ∙ get_last log.records bytes
 
+  -- what counts, what is pending behind it, and what wasn't given are all records
+  pub given_all : (job : JobState S) (log : Log) → IsTrue stands (Some job.storage) job.batch job.given job.settled log
+      → (take job.settled log.records ++ drop job.settled (take job.given log.records)) ++ job.batch ≡ log.records
+  given_all job log t =
+      ap (λ rs. rs ++ job.batch) (joined job.settled job.given log.records t.order)
+      ∙ ap (λ rs. take job.given log.records ++ rs) t.not_given ∙ take-append-drop job.given log.records
+
+  pub given_count : (job : JobState S) (log : Log) (now : ℕ) → IsTrue stands (Some job.storage) job.batch job.given job.settled log
+      → now ≡ job.given + length job.batch → now ≡ length log.records
+  given_count job log now t is = omega (arith, is, ap length t.not_given, length_drop job.given log.records, t.within)
+
   -- the storage with a batch that it was given, if only an empty one
-  pub done_put : (job : JobState S) (s : S) (now : ℕ) (log : Log) → IsJob stands job log → now ≡ job.given + length job.batch
+  pub done_put : (job : JobState S) (s : S) (now : ℕ) (log : Log) → IsTrue stands (Some job.storage) job.batch job.given job.settled log
+      → now ≡ job.given + length job.batch
       → stands s (take job.settled log.records ++ drop job.settled (take job.given log.records)) job.batch
-      → (now ≡ length log.records) × Keeps stands s job.given now log
-  done_put job s now log j is stand =
-      let whole : now ≡ length log.records = omega (arith, is, ap length j.not_given, length_drop job.given log.records, j.within) in (
-        whole,
-        subst (λ rs. stands s rs (drop job.given (take now log.records))) (joined job.settled job.given log.records j.order)
+      → IsDone stands (record { storage = s; given = now; settled = job.given; history = job.history }) log
+  done_put job s now log t is stand =
+      let whole = given_count job log now t is in
+      record {
+        all = whole;
+        order = omega (arith, is);
+        keeps = subst (λ rs. stands s rs (drop job.given (take now log.records))) (joined job.settled job.given log.records t.order)
             (subst (λ rs. stands s (take job.settled log.records ++ drop job.settled (take job.given log.records)) rs)
-            (j.not_given ∙ sym (ap (λ rs. drop job.given rs) (ap (λ n. take n log.records) whole ∙ take_all log.records))) stand),
-      )
+            (t.not_given ∙ sym (ap (λ rs. drop job.given rs) (ap (λ n. take n log.records) whole ∙ take_all log.records))) stand);
+      }
+
+  -- with all of it, behind which the next file begins
+  pub done_turn : (job : JobState S) (s : S) (now : ℕ) (log : Log) → IsTrue stands (Some job.storage) job.batch job.given job.settled log
+      → now ≡ job.given + length job.batch
+      → stands s ((take job.settled log.records ++ drop job.settled (take job.given log.records)) ++ job.batch) []
+      → IsDone stands (record { storage = s; given = now; settled = now; history = job.history }) log
+  done_turn job s now log t is stand =
+      let whole = given_count job log now t is in
+      let all : take now log.records ≡ log.records = ap (λ n. take n log.records) whole ∙ take_all log.records in
+      record {
+        all = whole;
+        order = omega arith;
+        keeps = subst (λ rs. stands s rs (drop now (take now log.records))) (given_all job log t ∙ sym all)
+            (subst (λ rs. stands s ((take job.settled log.records ++ drop job.settled (take job.given log.records)) ++ job.batch) rs)
+            (sym (none_past now log.records)) stand);
+      }
 
   -- it comes back
   pub true_back : (storage : Option S) (s : S) (batch : List (List ℕ)) (given settled was : ℕ) (part old new : List Event)
       → IsPrefix part old → new ≡ old ++ Synced settled ∷ [] → was ≤ settled
-      → IsDone stands (record { storage = s; batch = []; given = given; settled = settled; history = part }) (log_in before part)
+      → IsDone stands (record { storage = s; given = given; settled = settled; history = part }) (log_in before part)
       → IsTrue stands storage batch given was (log_in before old)
       → IsTrue stands (Some s) batch given settled (log_in before new)
   true_back storage s batch given settled was part old new p is more done t =
@@ -221,18 +256,6 @@ module _ {S : Type 0} (stands : S → List (List ℕ) → List (List ℕ) → Ty
         stand = t.keeps;
         there = get_take settled (log_in before history).records place bytes (omega (arith, now.synced, t.synced)) now.there;
       }
-
-  -- whatever crash comes while a thread has the storage
-  pub outlives : (leaves : S → S → List (List ℕ) → List (List ℕ) → Type 0) (job : JobState S) (new : S) (log : Log) (place : ℕ) (bytes : List ℕ)
-      → IsJob stands job log → IsStored place bytes log
-      → ((these those : List (List ℕ)) → stands job.storage these those → leaves job.storage new these (these ++ those))
-      → Outlives leaves job.storage new place bytes
-  outlives leaves job new log place bytes j stored run = record {
-    these = take job.settled log.records;
-    more = drop job.settled (take job.given log.records);
-    left = run (take job.settled log.records) (drop job.settled (take job.given log.records)) j.keeps;
-    there = get_take job.settled log.records place bytes (omega (arith, stored.synced, j.synced)) stored.there;
-  }
 
 -- what counts as synced goes on
 pub synced_more : (before : List (List ℕ)) (old new : List Event) (synced : ℕ) → IsPrefix old new → synced ≤ (log_in before old).synced

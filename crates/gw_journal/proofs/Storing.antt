@@ -1,40 +1,222 @@
--- A log on a disk through a crash.
-use Rattle.std.proofs.Common.{◌≡◌, ℕ, ◌+◌, List, ◌∷◌, ◌++◌, drop, sym, ◌∙◌, subst, arith}
-use Rattle.gw_log.specs.Chain.{LogState, Origin, Holds, IsEither, IsLog, spelled}
+-- What the calls of a log are to a storage.
+use Rattle.std.proofs.Common.{◌≡◌, refl, inl, inr, ⊎_elim, ℕ, ◌+◌, ◌≤◌, List, [], ◌∷◌, ◌++◌, length, take, sym, ◌∙◌, ap, subst, arith}
+use Rattle.std.proofs.Common.{Bool, true, false, append_assoc, length-append}
+use Rattle.std.specs.Prelude.{IsTrue, IsFalse}
+use Rattle.gw_log.specs.Chain.{Head, LogState, Origin, Holds, IsEither, IsEitherOrNext, IsLog, IsFewer, HasRetired, IsLogOrFewer, AreBefore, none, more, next_head}
 use Rattle.gw_log.specs.Disk.{Files, LeavesOnly}
-use Rattle.gw_log.specs.File.{Has}
-use Rattle.gw_log.specs.State.{at_rest}
-use Rattle.gw_log.proofs.Crash.{has_shut}
-use Rattle.gw_log.proofs.Logs.{log_with, no_file}
-use Rattle.gw_journal.specs.Logs.{StandsAt}
-use Rattle.gw_journal.specs.Stored.{LeavesEither, HasAt, Held}
+use Rattle.gw_log.proofs.Moments.{weaker}
+use Rattle.gw_journal.specs.Logs.{IsOneOf}
+use Rattle.gw_journal.specs.Stored.{Covers, StoredState, disk_of, IsHeld, Held, KeepsOne, LeavesOne}
+use Rattle.gw_journal.proofs.Logging.{take_front, take_all}
 
--- a crash leaves what the log holds
-crash_leaves : {D : Type 0} (seen : D → Files) (may_leave : D → Files → Type 0) (log : LogState D) (from : Origin) (these those : List (List ℕ)) (c : Files)
-    → Holds seen may_leave log from these those → may_leave log.segment.disk c → IsLog log.id c from these
-crash_leaves seen may_leave log from these those c h could =
-    let same : (m : ℕ) → c m ≡ seen log.segment.disk m = λ m. h.stands.staged.durable c could m in
-    let mine : List (List ℕ) = spelled h.head ∷ h.these in
-    let has : Has mine (c log.segment.number) =
-    has_shut mine 0 (drop 1 (at_rest those)) (c log.segment.number) (omega arith) h.stands.staged.short (same log.segment.number ∙ h.stands.staged.file) in
-    subst (λ rs. IsLog log.id c from rs) (sym h.all) (log_with seen may_leave log from these those h c h.these
-    (record { wide = h.wide; some = h.some; has = subst (λ n. Has mine (c n)) (sym h.number) has })
-    (λ m lt. same m) (no_file (c (h.head.number + 1)) (same (h.head.number + 1) ∙ h.none_above (h.head.number + 1) (omega arith)))
-    (λ m lt. same m ∙ h.none_above m (omega (arith, lt))))
+-- ---- the head of the last file
 
--- so it leaves each record that the log has
-pub crash_leaves_at : {D : Type 0} (honest : D → Type 0) (seen : D → Files) (may_leave : D → Files → Type 0) (log : LogState D) (place : ℕ) (bytes : List ℕ) (c : Files)
-    → honest log.segment.disk → StandsAt (Held honest seen may_leave) log place bytes → may_leave log.segment.disk c → HasAt log.id place bytes c
-crash_leaves_at honest seen may_leave log place bytes c did at could =
-    let held = at.stand did in
-    record { from = held.from; records = at.these; is = crash_leaves seen may_leave log held.from at.these at.pending c held.holds could; there = at.there }
+-- it is the log's, and says how many records stand before the file
+head_says : (id : ℕ) (files : Files) (last : Head) (n f b : ℕ) (front : List (List ℕ)) → AreBefore id files last n f b front
+    → (last.id ≡ id) × (last.first ≡ f + length front)
+head_says id files last n f b _ (none _ _ _ follows) = (follows.its_id, omega (arith, follows.its_first))
+head_says id files last n f b _ (more _ _ _ h these those follows is rest) =
+    let there = head_says id files last (n + 1) (f + length these) (length (files n)) those rest in
+    (there.0, omega (arith, there.1, length-append these those))
 
--- and so does a crash while the log changes
-pub leaves_either : {D : Type 0} (honest : D → Type 0) (seen : D → Files) (may_leave : D → Files → Type 0) (moment : D → ℕ) (left_since : D → ℕ → Files → Type 0) (old new : LogState D)
-    → (honest new.segment.disk → honest old.segment.disk)
-    → ((from : Origin) (these those : List (List ℕ)) → Holds seen may_leave old from these those
-    → LeavesOnly moment left_since old.segment.disk new.segment.disk (IsEither old.id from these (these ++ those)))
-    → (these those : List (List ℕ)) → Held honest seen may_leave old these those → honest new.segment.disk → LeavesEither moment left_since old new these (these ++ those)
-leaves_either honest seen may_leave moment left_since old new back run these those held did =
-    let here = held (back did) in
-    record { from = here.from; leaves = run here.from these those here.holds }
+module _ (tells : List (List ℕ) → List ℕ → Type 0) where
+  -- with records more, behind those that the checkpoint tells of
+  covers_more : (from : Origin) (head : Head) (all kept those : List (List ℕ)) → head.first ≤ length all → Covers tells from head all kept
+      → Covers tells from head (all ++ those) (kept ++ those)
+  covers_more from head all kept those le c = record {
+    gone = c.gone;
+    split = ap (λ rs. rs ++ those) c.split ∙ append_assoc c.gone kept those;
+    place = c.place;
+    told = subst (λ rs. tells rs head.checkpoint) (sym (take_front head.first all those le)) c.told;
+  }
+
+  -- with the next head, behind all of them
+  covers_next : (from : Origin) (head next : Head) (all kept those : List (List ℕ)) (checkpoint : List ℕ) → next.first ≡ length (all ++ those)
+      → next.checkpoint ≡ checkpoint → tells (all ++ those) checkpoint → Covers tells from head all kept → Covers tells from next (all ++ those) (kept ++ those)
+  covers_next from head next all kept those checkpoint place is told c = record {
+    gone = c.gone;
+    split = ap (λ rs. rs ++ those) c.split ∙ append_assoc c.gone kept those;
+    place = c.place;
+    told = subst (λ bytes. tells (take next.first (all ++ those)) bytes) (sym is)
+        (subst (λ rs. tells rs checkpoint) (sym (ap (λ n. take n (all ++ those)) place ∙ take_all (all ++ those))) told);
+  }
+
+  -- without the first file
+  covers_fewer : (from to : Origin) (head : Head) (all kept left : List (List ℕ)) → IsFewer from kept to left → Covers tells from head all kept
+      → Covers tells to head all left
+  covers_fewer from to head all kept left fewer c = record {
+    gone = c.gone ++ fewer.gone;
+    split = c.split ∙ ap (λ rs. c.gone ++ rs) fewer.split ∙ sym (append_assoc c.gone fewer.gone left);
+    place = omega (arith, c.place, fewer.first, length-append c.gone fewer.gone);
+    told = c.told;
+  }
+
+  covers_length : (from : Origin) (head : Head) (all kept : List (List ℕ)) → Covers tells from head all kept → length all ≡ from.first + length kept
+  covers_length from head all kept c = omega (arith, c.place, ap length c.split, length-append c.gone kept)
+
+  -- a log of these records is one of those that a crash may leave
+  one_left : (id other : ℕ) (files : Files) (from : Origin) (head : Head) (all kept : List (List ℕ)) (left : List (List (List ℕ))) → other ≡ id
+      → IsOneOf all left → Covers tells from head all kept → IsLog other files from head kept → KeepsOne tells id left files
+  one_left id other files from head all kept left same among c log = record {
+    all = all;
+    among = among;
+    kept = record { from = from; head = head; kept = kept; covers = c; log = subst (λ n. IsLog n files from head kept) same log };
+  }
+
+-- ---- the storage
+
+module _ {D : Type 0} (tells : List (List ℕ) → List ℕ → Type 0) (honest : D → Type 0) (seen : D → Files) (may_leave : D → Files → Type 0)
+    (moment : D → ℕ) (left_since : D → ℕ → Files → Type 0) where
+  abbrev HasThese : StoredState D → List (List ℕ) → List (List ℕ) → Type 0
+  HasThese s these those = IsHeld tells seen may_leave s these those
+
+  -- where the last head's file begins
+  first_within : (s : StoredState D) (these those : List (List ℕ)) (h : HasThese s these those) → h.head.first ≤ length these
+  first_within s these those h =
+      let says = head_says s.log.id (seen (disk_of s)) h.head h.from.number h.from.first h.from.before h.holds.front h.holds.ended in
+      omega (arith, says.1, covers_length tells h.from h.head these h.kept h.covers, ap length h.holds.all, length-append h.holds.front h.holds.these)
+
+  -- the log's number is its head's
+  its_id : (log : LogState D) (from : Origin) (head : Head) (kept those : List (List ℕ)) → Holds seen may_leave log from head kept those → head.id ≡ log.id
+  its_id log from head kept those h = (head_says log.id (seen log.segment.disk) head from.number from.first from.before h.front h.ended).0
+
+  -- how many records there are
+  next_place : (s : StoredState D) (these those : List (List ℕ)) (h : HasThese s these those) → s.log.first + s.log.count ≡ length (these ++ those)
+  next_place s these those h =
+      let says = head_says s.log.id (seen (disk_of s)) h.head h.from.number h.from.first h.from.before h.holds.front h.holds.ended in
+      omega (
+        arith,
+        says.1,
+        h.holds.first,
+        h.holds.count,
+        covers_length tells h.from h.head these h.kept h.covers,
+        ap length h.holds.all,
+        length-append h.holds.front h.holds.these,
+        length-append these those,
+      )
+
+  -- at `Ok` what was pending counts
+  pub held_more : (old new : StoredState D) (these those pending : List (List ℕ)) → new.id ≡ old.id → (honest (disk_of new) → honest (disk_of old))
+      → Held tells honest seen may_leave old these those
+      → ((from : Origin) (head : Head) (kept rest : List (List ℕ)) → Holds seen may_leave old.log from head kept rest → Holds seen may_leave new.log from head (kept ++ rest) pending)
+      → Held tells honest seen may_leave new (these ++ those) pending
+  held_more old new these those pending same back held run did =
+      let h = held (back did) in
+      let now = run h.from h.head h.kept those h.holds in
+      record {
+        from = h.from;
+        head = h.head;
+        kept = h.kept ++ those;
+        covers = covers_more tells h.from h.head these h.kept those (first_within old these those h) h.covers;
+        holds = now;
+        id = sym (its_id new.log h.from h.head (h.kept ++ those) pending now) ∙ its_id old.log h.from h.head h.kept those h.holds ∙ h.id ∙ sym same;
+      }
+
+  -- the next file is begun
+  pub held_next : (old new : StoredState D) (these those : List (List ℕ)) (oldest : ℕ) (checkpoint : List ℕ) → new.id ≡ old.id
+      → (honest (disk_of new) → honest (disk_of old)) → tells (these ++ those) checkpoint → Held tells honest seen may_leave old these those
+      → ((from : Origin) (head : Head) (kept rest : List (List ℕ)) → Holds seen may_leave old.log from head kept rest
+      → Holds seen may_leave new.log from (next_head old.log oldest checkpoint) (kept ++ rest) [])
+      → Held tells honest seen may_leave new (these ++ those) []
+  held_next old new these those oldest checkpoint same back told held run did =
+      let h = held (back did) in
+      let next = next_head old.log oldest checkpoint in
+      let now = run h.from h.head h.kept those h.holds in
+      record {
+        from = h.from;
+        head = next;
+        kept = h.kept ++ those;
+        covers = covers_next tells h.from h.head next these h.kept those checkpoint (next_place old these those h) refl told h.covers;
+        holds = now;
+        id = sym (its_id new.log h.from next (h.kept ++ those) [] now) ∙ h.id ∙ sym same;
+      }
+
+  -- the first file is removed, or isn't
+  pub held_fewer : (old new : StoredState D) (these those : List (List ℕ)) (done : Bool) → new.id ≡ old.id → (honest (disk_of new) → honest (disk_of old))
+      → Held tells honest seen may_leave old these those
+      → ((from : Origin) (head : Head) (kept rest : List (List ℕ)) → Holds seen may_leave old.log from head kept rest
+      → IsTrue done → HasRetired seen may_leave new.log from head kept rest)
+      → (IsFalse done → new.log ≡ old.log)
+      → Held tells honest seen may_leave new these those
+  held_fewer old new these those true same back held run stays did =
+      let h = held (back did) in
+      let r = run h.from h.head h.kept those h.holds refl in
+      record {
+        from = r.to;
+        head = h.head;
+        kept = r.kept;
+        covers = covers_fewer tells h.from r.to h.head these h.kept r.kept r.fewer h.covers;
+        holds = r.holds;
+        id = sym (its_id new.log r.to h.head r.kept those r.holds) ∙ its_id old.log h.from h.head h.kept those h.holds ∙ h.id ∙ sym same;
+      }
+  held_fewer old new these those false same back held run stays did =
+      let h = held (back did) in
+      let is = stays refl in
+      record {
+        from = h.from;
+        head = h.head;
+        kept = h.kept;
+        covers = h.covers;
+        holds = subst (λ log. Holds seen may_leave log h.from h.head h.kept those) (sym is) h.holds;
+        id = ap (λ (log : LogState D). log.id) is ∙ h.id ∙ sym same;
+      }
+
+  -- ---- and a crash leaves
+
+  pub leaves_more : (old new : StoredState D) (these those : List (List ℕ)) → new.id ≡ old.id → (honest (disk_of new) → honest (disk_of old))
+      → Held tells honest seen may_leave old these those
+      → ((from : Origin) (head : Head) (kept rest : List (List ℕ)) → Holds seen may_leave old.log from head kept rest
+      → LeavesOnly moment left_since (disk_of old) (disk_of new) (IsEither old.log.id from head kept (kept ++ rest)))
+      → LeavesOne tells honest moment left_since old new (these ∷ (these ++ those) ∷ [])
+  leaves_more old new these those same back held run = record {
+    id = same;
+    back = back;
+    leaves = λ did.
+        let h = held (back did) in
+        let left = these ∷ (these ++ those) ∷ [] in
+        let more = covers_more tells h.from h.head these h.kept those (first_within old these those h) h.covers in
+        weaker moment left_since (disk_of old) (disk_of new) (IsEither old.log.id h.from h.head h.kept (h.kept ++ those)) (KeepsOne tells old.id left)
+        (λ c is. ⊎_elim (λ log. one_left tells old.id old.log.id c h.from h.head these h.kept left h.id (inl refl) h.covers log)
+        (λ log. one_left tells old.id old.log.id c h.from h.head (these ++ those) (h.kept ++ those) left h.id (inr (inl refl)) more log) is)
+        (run h.from h.head h.kept those h.holds);
+  }
+
+  pub leaves_next : (old new : StoredState D) (these those : List (List ℕ)) (oldest : ℕ) (checkpoint : List ℕ) → new.id ≡ old.id
+      → (honest (disk_of new) → honest (disk_of old)) → tells (these ++ those) checkpoint → Held tells honest seen may_leave old these those
+      → ((from : Origin) (head : Head) (kept rest : List (List ℕ)) → Holds seen may_leave old.log from head kept rest
+      → LeavesOnly moment left_since (disk_of old) (disk_of new) (IsEitherOrNext old.log.id from head (next_head old.log oldest checkpoint) kept (kept ++ rest)))
+      → LeavesOne tells honest moment left_since old new (these ∷ (these ++ those) ∷ [])
+  leaves_next old new these those oldest checkpoint same back told held run = record {
+    id = same;
+    back = back;
+    leaves = λ did.
+        let h = held (back did) in
+        let left = these ∷ (these ++ those) ∷ [] in
+        let next = next_head old.log oldest checkpoint in
+        let more = covers_more tells h.from h.head these h.kept those (first_within old these those h) h.covers in
+        let begun = covers_next tells h.from h.head next these h.kept those checkpoint (next_place old these those h) refl told h.covers in
+        weaker moment left_since (disk_of old) (disk_of new) (IsEitherOrNext old.log.id h.from h.head next h.kept (h.kept ++ those)) (KeepsOne tells old.id left)
+        (λ c is. ⊎_elim
+        (λ either. ⊎_elim (λ log. one_left tells old.id old.log.id c h.from h.head these h.kept left h.id (inl refl) h.covers log)
+        (λ log. one_left tells old.id old.log.id c h.from h.head (these ++ those) (h.kept ++ those) left h.id (inr (inl refl)) more log) either)
+        (λ log. one_left tells old.id old.log.id c h.from next (these ++ those) (h.kept ++ those) left h.id (inr (inl refl)) begun log) is)
+        (run h.from h.head h.kept those h.holds);
+  }
+
+  pub leaves_fewer : (old new : StoredState D) (these those : List (List ℕ)) → new.id ≡ old.id → (honest (disk_of new) → honest (disk_of old))
+      → Held tells honest seen may_leave old these those
+      → ((from : Origin) (head : Head) (kept rest : List (List ℕ)) → Holds seen may_leave old.log from head kept rest
+      → LeavesOnly moment left_since (disk_of old) (disk_of new) (IsLogOrFewer old.log.id from head kept))
+      → LeavesOne tells honest moment left_since old new (these ∷ [])
+  leaves_fewer old new these those same back held run = record {
+    id = same;
+    back = back;
+    leaves = λ did.
+        let h = held (back did) in
+        let left = these ∷ [] in
+        weaker moment left_since (disk_of old) (disk_of new) (IsLogOrFewer old.log.id h.from h.head h.kept) (KeepsOne tells old.id left)
+        (λ c is. ⊎_elim (λ log. one_left tells old.id old.log.id c h.from h.head these h.kept left h.id (inl refl) h.covers log)
+        (λ s. one_left tells old.id old.log.id c s.to h.head these s.kept left h.id (inl refl)
+        (covers_fewer tells h.from s.to h.head these h.kept s.kept s.fewer h.covers) s.log) is)
+        (run h.from h.head h.kept those h.holds);
+  }

@@ -1,10 +1,10 @@
 -- What is known of a journal, by its history.
-use Rattle.std.specs.Prelude.{ℕ, ◌+◌, ◌<◌, ◌≤◌, ◌≡◌, ◌≢◌, ◌^◌, max, ◌⊎◌, List, [], ◌∷◌, ◌++◌, length, take, drop, map, slice_get, Option, Some, IfSome, IsSome, IsNone, Vec}
+use Rattle.std.specs.Prelude.{⊤, ℕ, ◌+◌, ◌<◌, ◌≤◌, ◌≡◌, ◌≢◌, ◌^◌, max, ◌⊎◌, List, [], ◌∷◌, ◌++◌, length, take, drop, map, slice_get, Option, Some, None, IfSome, IsSome, IsNone, Vec}
 use Rattle.std.specs.List.{AllByRecursion}
 use Rattle.std.specs.declared.alloc.Global.{Global}
 use mathlib.Core.List.{IsPrefix}
 use Rattle.gw_journal.specs.declared.event.Event.{Event}
-use Rattle.gw_journal.specs.declared.event.Event.TheVariants.{Put, Synced}
+use Rattle.gw_journal.specs.declared.event.Event.TheVariants.{Put, Synced, Read}
 use Rattle.gw_journal.specs.declared.fault.JournalFault.{JournalFault}
 
 -- the bytes of records in memory
@@ -24,6 +24,7 @@ opened records = record { records = records; synced = length records }
 abbrev pub next : Log → Event → Log
 next log (Put bytes) = record log { records = log.records ++ bytes ∷ [] }
 next log (Synced count) = record log { synced = max log.synced count }
+next log (Read place bytes) = log
 
 abbrev pub after : Log → List Event → Log
 after log [] = log
@@ -39,14 +40,29 @@ pub record IsLater (old new : Log) : Type 0 where
   pub records : new.records ≡ old.records ++ more
   pub synced : old.synced ≤ new.synced
 
+-- the record is the one at this place of them
+abbrev pub IsIn : ℕ → List ℕ → List (List ℕ) → Type 0
+IsIn place bytes records = slice_get records place ≡ Some bytes
+
 -- a record stands at this place of the journal
 abbrev pub IsAt : ℕ → List ℕ → Log → Type 0
-IsAt place bytes log = slice_get log.records place ≡ Some bytes
+IsAt place bytes log = IsIn place bytes log.records
 
 -- A receipt: a record stands at this place of the journal, and is on the disk
 pub record IsStored (place : ℕ) (bytes : List ℕ) (log : Log) : Type 0 where
   pub there : IsAt place bytes log
   pub synced : place < log.synced
+
+-- each record that was read from the files is the one that stood at its place then, from this journal on
+abbrev pub AreFaithfulFrom : Log → List Event → Type 0
+AreFaithfulFrom log [] = ⊤
+AreFaithfulFrom log (Put bytes ∷ events) = AreFaithfulFrom (next log (Put bytes)) events
+AreFaithfulFrom log (Synced count ∷ events) = AreFaithfulFrom (next log (Synced count)) events
+AreFaithfulFrom log (Read place bytes ∷ events) = IsAt place bytes log × AreFaithfulFrom log events
+
+-- The one premise of who reads the files beside the journal: what was read is what was written
+abbrev pub AreFaithful : List (List ℕ) → List Event → Type 0
+AreFaithful before history = AreFaithfulFrom (opened before) history
 
 -- what was seen of a journal, and a place in it
 pub record TicketState : Type 0 where
@@ -73,27 +89,42 @@ AreFit records = AllByRecursion Fits records
 abbrev pub Keeps : {S : Type 0} → (S → List (List ℕ) → List (List ℕ) → Type 0) → S → (settled given : ℕ) → Log → Type 0
 Keeps stands s settled given log = stands s (take settled log.records) (drop settled (take given log.records))
 
--- a record stands at this place of whatever a crash leaves from the one moment to the other
-pub record Outlives {S : Type 0} (leaves : S → S → List (List ℕ) → List (List ℕ) → Type 0) (old new : S) (place : ℕ) (bytes : List ℕ) : Type 0 where
-  pub these : List (List ℕ)
-  pub more : List (List ℕ)
-  pub left : leaves old new these (these ++ more)
-  pub there : slice_get these place ≡ Some bytes
-
 -- it stands at this place of the storage, whatever crash comes
 pub record StandsAt {S : Type 0} (stands : S → List (List ℕ) → List (List ℕ) → Type 0) (s : S) (place : ℕ) (bytes : List ℕ) : Type 0 where
   pub these : List (List ℕ)
   pub pending : List (List ℕ)
   pub stand : stands s these pending
-  pub there : slice_get these place ≡ Some bytes
-
--- each record that is on the disk by this journal outlives a crash
-abbrev pub AllOutlive : {S : Type 0} → (S → S → List (List ℕ) → List (List ℕ) → Type 0) → Log → S → S → Type 0
-AllOutlive leaves log old new = (place : ℕ) (bytes : List ℕ) → IsStored place bytes log → Outlives leaves old new place bytes
+  pub there : IsIn place bytes these
 
 -- each stands at its place of the storage
 abbrev pub AllStand : {S : Type 0} → (S → List (List ℕ) → List (List ℕ) → Type 0) → Log → S → Type 0
 AllStand stands log s = (place : ℕ) (bytes : List ℕ) → IsStored place bytes log → StandsAt stands s place bytes
+
+-- ---- through a crash
+
+-- these records are among those lists of records
+abbrev pub IsOneOf : List (List ℕ) → List (List (List ℕ)) → Type 0
+IsOneOf these [] = ⊥
+IsOneOf these (those ∷ others) = (these ≡ those) ⊎ IsOneOf these others
+
+-- each of the one is among the others
+abbrev pub AreAmong : List (List (List ℕ)) → List (List (List ℕ)) → Type 0
+AreAmong some others = AllByRecursion (λ these. IsOneOf these others) some
+
+-- Of the records of a journal these count, and those that were given are pending: a crash leaves the ones or the others.
+-- Where a file is begun behind them, with this checkpoint, it may leave all
+abbrev pub outcomes : Option (List ℕ) → (settled given : ℕ) → List (List ℕ) → List (List (List ℕ))
+outcomes None settled given records = take settled records ∷ take given records ∷ []
+outcomes (Some checkpoint) settled given records = take settled records ∷ take given records ∷ records ∷ []
+
+-- each record that is on the disk by this journal stands at its place in each of these
+abbrev pub NoneIsLost : Log → List (List (List ℕ)) → Type 0
+NoneIsLost log left = (place : ℕ) (bytes : List ℕ) → IsStored place bytes log → AllByRecursion (λ records. IsIn place bytes records) left
+
+-- a call answered with a fault, and left the storage so
+pub record HasFailed {S : Type 0} (fails : S → S → JournalFault → Type 0) (new : S) (fault : JournalFault) : Type 0 where
+  pub old : S
+  pub failed : fails old new fault
 
 -- ---- what lies under the lock, and what a thread takes from there
 
@@ -134,25 +165,42 @@ pub record IsTrue {S : Type 0} (stands : S → List (List ℕ) → List (List �
   pub fit : AreFit batch
   pub keeps : IfSome storage (λ s. Keeps stands s settled given log)
 
--- the storage with a batch that it is to be given, and what of the history was seen when both were taken
+-- The storage with a batch that it is to be given, and what of the history was seen when both were taken.
+-- Where the next file is to be begun, its checkpoint
 pub record JobState (S : Type 0) : Type 0 where
   pub storage : S
   pub batch : List (List ℕ)
   pub given : ℕ
   pub settled : ℕ
   pub history : List Event
+  pub next : Option (List ℕ)
 
-abbrev pub IsJob : {S : Type 0} → (S → List (List ℕ) → List (List ℕ) → Type 0) → JobState S → Log → Type 0
-IsJob stands job log = IsTrue stands (Some job.storage) job.batch job.given job.settled log
+-- the checkpoint tells of all records of the journal
+pub record IsJob {S : Type 0} (stands : S → List (List ℕ) → List (List ℕ) → Type 0) (tells : List (List ℕ) → List ℕ → Type 0) (job : JobState S)
+    (log : Log) : Type 0 where
+  pub holds : IsTrue stands (Some job.storage) job.batch job.given job.settled log
+  pub told : IfSome job.next (tells log.records)
+
+-- the bytes of a vector, where there is one
+abbrev pub bytes_of : Option (Vec ℕ Global) → Option (List ℕ)
+bytes_of None = None
+bytes_of (Some v) = Some v.items
+
+-- the storage, how many records it was given, how many of them count, and what of the history was seen
+pub record DoneState (S : Type 0) : Type 0 where
+  pub storage : S
+  pub given : ℕ
+  pub settled : ℕ
+  pub history : List Event
 
 -- the storage has all of them
-pub record IsDone {S : Type 0} (stands : S → List (List ℕ) → List (List ℕ) → Type 0) (done : JobState S) (log : Log) : Type 0 where
+pub record IsDone {S : Type 0} (stands : S → List (List ℕ) → List (List ℕ) → Type 0) (done : DoneState S) (log : Log) : Type 0 where
   pub all : done.given ≡ length log.records
   pub order : done.settled ≤ done.given
   pub keeps : Keeps stands done.storage done.settled done.given log
 
 -- what comes back is what a thread took last
-pub record ComesBack {S : Type 0} (desk : DeskState S) (done : JobState S) : Type 0 where
+pub record ComesBack {S : Type 0} (desk : DeskState S) (done : DoneState S) : Type 0 where
   pub well : IsNone desk.fault
   pub given : done.given ≡ desk.given
   pub more : desk.settled ≤ done.settled

@@ -78,6 +78,21 @@ impl Plain<Syncing, Event, u64> for Add {
     ghost state = { λ s. None };
 }
 
+/// These bytes were read from the files, as the record at this place.
+#[derive(Drop)]
+pub(crate) struct Reading<'a> {
+    pub(crate) place: u64,
+    pub(crate) bytes: &'a [u8],
+}
+
+impl Plain<Reading<'_>, Event, u64> for Add {
+    ghost use Rattle.std.specs.Prelude.{None};
+
+    ghost ask = { λ r. event.Read r.place r.bytes.now };
+
+    ghost state = { λ r. None };
+}
+
 /// Which book a journal's history has, and which records the journal had when it was opened. Who opens it picks them.
 pub trait Naming {
     ghost use Rattle.std.specs.Prelude.{ℕ, List};

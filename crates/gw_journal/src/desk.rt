@@ -1,10 +1,12 @@
 //! What lies under the lock of a journal, and what threads take from it.
-ghost use Rattle.std.specs.Prelude.{◌≡◌, ◌≤◌, ◌<◌, ◌^◌, ◌⊎◌, ◌↔◌, [], IfOk, IfErr, IfSome, IsErrOf, IsNone, IsSome, OnOk, OnErr, Some, IsTrue, length, ℕ, List, ◌++◌, ◌∷◌};
+ghost use Rattle.std.specs.Prelude.{◌≡◌, ◌≤◌, ◌<◌, ◌^◌, ◌⊎◌, ◌↔◌, [], IfOk, IfSome, IsErrOf, IsNone, IsSome, OnOk, OnErr, Some, IsTrue, IsFalse, length, ◌++◌, ◌∷◌};
 ghost use mathlib.Core.List.{IsPrefix};
-ghost use Rattle.gw_journal.specs.Logs.{AllOutlive, AllStand, AreFit, ComesBack, Confirms, Fits, HasGrown, IsAt, IsFull, IsIdle, IsSpent, log_in, records_of};
+ghost use Rattle.gw_journal.specs.declared.event.Event.TheVariants.{Put, Synced, Read};
+ghost use Rattle.gw_journal.specs.Logs.{AllStand, ComesBack, Confirms, Fits, HasGrown, IsAt, IsFull, IsIdle, IsSpent, log_in};
 
-use crate::book::{Front, History, Naming, Opened, Putting, Syncing};
+use crate::book::{Front, History, Naming, Opened, Putting, Reading, Syncing};
 use crate::fault::JournalFault;
+use crate::job::{Done, Job};
 use crate::storage::Storage;
 use std::alloc::Global;
 use std::marker::Model;
@@ -76,58 +78,6 @@ impl<J: Naming, S: Storage + Drop> Model for Desk<J, S> {
         × (d.settled ≤ (log_in J.before d.history).synced) };
 }
 
-/// The storage with a batch that it is to be given. An empty one: what is pending is to count.
-#[derive(Drop)]
-pub struct Job<J: Naming, S: Storage + Drop> {
-    storage: S,
-    batch: Vec<Vec<u8>>,
-    given: u64,
-    settled: u64,
-    front: Front<J>,
-}
-
-impl<J: Naming, S: Storage + Drop> Model for Job<J, S> {
-    ghost use Rattle.gw_journal.specs.Logs.{JobState, IsJob, log_in, records_of};
-
-    ghost Value = { JobState S };
-
-    ghost view = { λ j. record { storage = j.storage; batch = records_of j.batch.items; given = j.given; settled = j.settled; history = j.front } };
-
-    ghost invariant = { λ j. IsJob S.stands (record {
-      storage = j.storage;
-      batch = records_of j.batch.items;
-      given = j.given;
-      settled = j.settled;
-      history = j.front;
-    }) (log_in J.before j.front) };
-}
-
-/// The storage, which has all that was put when it was taken.
-#[derive(Drop)]
-pub struct Done<J: Naming, S: Storage + Drop> {
-    storage: S,
-    given: u64,
-    settled: u64,
-    front: Front<J>,
-}
-
-impl<J: Naming, S: Storage + Drop> Model for Done<J, S> {
-    ghost use Rattle.std.specs.Prelude.{[]};
-    ghost use Rattle.gw_journal.specs.Logs.{JobState, IsDone, log_in};
-
-    ghost Value = { JobState S };
-
-    ghost view = { λ j. record { storage = j.storage; batch = []; given = j.given; settled = j.settled; history = j.front } };
-
-    ghost invariant = { λ j. IsDone S.stands (record {
-      storage = j.storage;
-      batch = [];
-      given = j.given;
-      settled = j.settled;
-      history = j.front;
-    }) (log_in J.before j.front) };
-}
-
 impl<J: Naming> Receipt<J> {
     /// The place of its record in the journal.
     pub fn place(&self) -> u64
@@ -159,51 +109,6 @@ fn stored<J: Naming>(ticket: &Ticket<J>, front: &Front<J>, synced: u64) -> Optio
         front: ticket.front.again(),
         place,
     })
-}
-
-// Gives a storage a batch. With an empty one it settles.
-fn bring<S: Storage>(storage: &mut S, batch: &[Vec<u8>]) -> Result<(), JournalFault>
-    requires { AreFit (records_of batch.now) }
-    ensures ok { (these those : List (List ℕ)) → S.stands storage.old these those →
-        OnOk result (S.stands storage.new (these ++ those) (records_of batch.now)) }
-    ensures any_moment { (these those : List (List ℕ)) → S.stands storage.old these those →
-        S.leaves storage.old storage.new these (these ++ those) }
-    ensures err { IfErr result (λ fault. S.fails storage.old storage.new fault) }
-{
-    if batch.is_empty() {
-        return storage.settle();
-    }
-    storage.put(batch)
-}
-
-impl<J: Naming, S: Storage + Drop> Job<J, S> {
-    /// Gives the storage its batch, or has it settle. A crash at any moment leaves each record that there was a receipt for. A fault is the storage's own.
-    pub fn run(self) -> Result<Done<J, S>, (JournalFault, S)>
-        ensures same { IfOk result (λ done. done.history ≡ self.history) }
-        ensures any_moment { IfOk result (λ done.
-            AllOutlive S.leaves (log_in J.before self.history) self.storage done.storage) }
-        ensures any_moment_err { IfErr result (λ e.
-            AllOutlive S.leaves (log_in J.before self.history) self.storage e.1) }
-        ensures err { IfErr result (λ e. S.fails self.storage e.1 e.0) }
-    {
-        let Job {
-            storage,
-            batch,
-            given,
-            settled: _,
-            front,
-        } = self;
-        let mut storage = storage;
-        match bring(&mut storage, &batch) {
-            Err(fault) => Err((fault, storage)),
-            Ok(()) => Ok(Done {
-                storage,
-                given: given + batch.len() as u64,
-                settled: given,
-                front,
-            }),
-        }
-    }
 }
 
 impl<J: Naming, S: Storage + Drop> Desk<J, S> {
@@ -238,12 +143,23 @@ impl<J: Naming, S: Storage + Drop> Desk<J, S> {
         self.fault
     }
 
+    /// The whole history.
+    pub fn front(&self) -> &Front<J>
+        ensures { result.now ≡ self.now.history }
+    {
+        self.history.front()
+    }
+
     /// Puts a record of 1 to 2,147,483,648 bytes after the others. An allocation failure leaves the journal as it was.
     pub fn put(&mut self, bytes: Vec<u8>) -> Result<Ticket<J>, JournalFault>
         ensures put { IfOk result (λ t. IsAt t.place bytes.items (log_in J.before t.history)) }
         ensures seen { IfOk result (λ t. t.history ≡ self.new.history) }
         ensures later { IsPrefix self.old.history self.new.history }
-        ensures ok { OnOk result (self.new ≡ record self.old { batch = self.old.batch ++ bytes.items ∷ []; history = self.new.history }) }
+        ensures place { IfOk result (λ t. t.place ≡ length (log_in J.before self.old.history).records) }
+        ensures ok { OnOk result (self.new ≡ record self.old {
+          batch = self.old.batch ++ bytes.items ∷ [];
+          history = self.old.history ++ Put bytes.items ∷ [];
+        }) }
 
         // Once there was a fault, it is the answer.
         ensures faulty { IfSome self.old.fault (λ fault. IsErrOf result fault) }
@@ -259,6 +175,7 @@ impl<J: Naming, S: Storage + Drop> Desk<J, S> {
         ensures no_bytes { IsErrOf result JournalFault.Empty → self.new ≡ self.old }
         ensures too_many { IsErrOf result JournalFault.TooLong → self.new ≡ self.old }
         ensures err { OnErr result ((self.new ≡ self.old) ⊎ HasGrown self.old self.new) }
+        ensures failed { OnErr result ((self.new ≡ self.old) ⊎ IsSome self.new.fault) }
     {
         if let Some(fault) = self.fault {
             return Err(fault);
@@ -291,6 +208,7 @@ impl<J: Naming, S: Storage + Drop> Desk<J, S> {
     pub fn take(&mut self, alloc: Global) -> Option<Job<J, S>>
         ensures same { self.new.history ≡ self.old.history }
         ensures seen { IfSome result (λ job. job.history ≡ self.old.history) }
+        ensures next { IfSome result (λ job. IsNone job.next) }
         ensures none { IsNone result ↔ IsIdle self.old }
         ensures fault { self.new.fault ≡ self.old.fault }
     {
@@ -306,6 +224,8 @@ impl<J: Naming, S: Storage + Drop> Desk<J, S> {
             given,
             settled: self.settled,
             front: self.history.front().again(),
+            oldest: 0,
+            checkpoint: None,
         })
     }
 
@@ -326,7 +246,7 @@ impl<J: Naming, S: Storage + Drop> Desk<J, S> {
         ensures back { IsNone self.new.fault → self.new ≡ record self.old {
           storage = Some done.storage;
           settled = done.settled;
-          history = self.new.history;
+          history = self.old.history ++ Synced done.settled ∷ [];
         } }
         ensures faulty { IsSome self.old.fault → self.new.fault ≡ self.old.fault }
         ensures disk { self.new.fault ≡ Some JournalFault.Disk →
@@ -360,6 +280,27 @@ impl<J: Naming, S: Storage + Drop> Desk<J, S> {
         if self.fault.is_none() {
             self.fault = Some(fault);
         }
+    }
+
+    /// Notes that these bytes were read from the files, as the record at this place. It takes no memory.
+    /// False: it isn't noted, since there are 2^62 events.
+    pub fn note(&mut self, place: u64, bytes: &[u8]) -> bool
+        ensures later { IsPrefix self.old.history self.new.history }
+        ensures noted { IsTrue result → self.new ≡ record self.old {
+          history = self.old.history ++ Read place bytes.now ∷ [];
+        } }
+        ensures faulty { IsSome self.old.fault → self.new.fault ≡ self.old.fault }
+        ensures full { IsFalse result → IsSpent self.old ⊎ HasGrown self.old self.new }
+        ensures failed { IsFalse result → (self.new ≡ self.old) ⊎ IsSome self.new.fault }
+    {
+        if self.history.is_full() {
+            return false;
+        }
+        if !self.history.add(&Reading { place, bytes }) {
+            self.fault = Some(self.fault.unwrap_or(JournalFault::Full));
+            return false;
+        }
+        true
     }
 
     /// The receipt of a record, where it is on the disk.

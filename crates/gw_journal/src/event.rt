@@ -7,4 +7,6 @@ pub enum Event {
     Put { bytes: LinkedList<u8> },
     /// This many records are on the disk.
     Synced { count: u64 },
+    /// These bytes were read from the files, as the record at this place.
+    Read { place: u64, bytes: LinkedList<u8> },
 }

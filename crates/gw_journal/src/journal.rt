@@ -2,37 +2,39 @@
 ghost use Rattle.gw_journal.specs.Logs.{Confirms, IsAt, log_in};
 
 use crate::book::Naming;
+use crate::books::Books;
 use crate::desk::{Desk, Receipt, Ticket};
 use crate::fault::JournalFault;
 use crate::storage::Storage;
 use std::alloc::Global;
-use std::sync::{Condvar, Mutex, Wait};
+use std::marker::PhantomData;
+use std::sync::{Condvar, Mutex, MutexGuard, Wait};
 
-/// A journal that threads share.
+/// A journal that threads share: a desk, or what has one inside, under a lock.
 #[derive(Drop)]
-pub struct Journal<J: Naming, S: Storage + Drop> {
+pub struct Journal<J: Naming, B: Books<J> + Drop> {
     alloc: Global,
-    desk: Mutex<Desk<J, S>>,
+    books: Mutex<B>,
     news: Condvar,
+    of: PhantomData<J>,
 }
 
-impl<J: Naming, S: Storage + Drop> Journal<J, S> {
+impl<J: Naming, B: Books<J> + Drop> Journal<J, B> {
     ghost use Rattle.std.specs.Prelude.{◌≡◌, IfOk};
 
     /// A journal under a lock.
-    pub fn new(alloc: Global, desk: Desk<J, S>) -> Journal<J, S> {
+    pub fn new(alloc: Global, books: B) -> Journal<J, B> {
         Journal {
             alloc,
-            desk: Mutex::new(desk),
+            books: Mutex::new(books),
             news: Condvar::new(),
+            of: PhantomData,
         }
     }
 
-    /// Puts a record of 1 to 2,147,483,648 bytes after the others. It need not be on the disk yet.
-    pub fn put<R: Wait>(&self, rt: &R, bytes: Vec<u8>) -> Result<Ticket<J>, JournalFault>
-        ensures { IfOk result (λ t. IsAt t.place bytes.items (log_in J.before t.history)) }
-    {
-        self.desk.lock(rt).put(bytes)
+    /// Waits for the lock.
+    pub fn lock<R: Wait>(&self, rt: &R) -> MutexGuard<'_, B> {
+        self.books.lock(rt)
     }
 
     /// Waits until a record is on the disk. The first who waits brings all that was put to the disk, for all.
@@ -40,34 +42,45 @@ impl<J: Naming, S: Storage + Drop> Journal<J, S> {
         ensures place { IfOk result (λ r. r.place ≡ ticket.now.place) }
         ensures stored { IfOk result (λ r. Confirms J.before ticket.now r) }
     {
-        let mut desk = self.desk.lock(rt);
+        let mut books = self.books.lock(rt);
         for _ in rt.forever() {
-            if let Some(receipt) = desk.receipt(ticket) {
+            if let Some(receipt) = books.receipt(ticket) {
                 return Ok(receipt);
             }
-            if let Some(fault) = desk.fault() {
+            if let Some(fault) = books.fault() {
                 return Err(fault);
             }
-            match desk.take(self.alloc) {
+            match books.take(self.alloc) {
                 Some(job) => {
-                    drop(desk);
-                    let done = job.run();
-                    desk = self.desk.lock(rt);
+                    drop(books);
+                    let done = B::run(job);
+                    books = self.books.lock(rt);
                     match done {
-                        Ok(done) => desk.give_back(done),
-                        Err((fault, _storage)) => desk.fail(fault),
+                        Ok(done) => books.give_back(done),
+                        Err(fault) => books.fail(fault),
                     }
                     self.news.notify_all();
                 }
-                None => desk = self.news.wait(rt, desk),
+                None => books = self.news.wait(rt, books),
             }
         }
         unreachable!()
     }
 
-    /// The journal, once no thread has it any more.
-    pub fn into_desk(self) -> Desk<J, S> {
-        let Journal { desk, .. } = self;
-        desk.into_inner()
+    /// What lay under the lock, once no thread has the journal any more.
+    pub fn into_books(self) -> B {
+        let Journal { books, .. } = self;
+        books.into_inner()
+    }
+}
+
+impl<J: Naming, S: Storage + Drop> Journal<J, Desk<J, S>> {
+    ghost use Rattle.std.specs.Prelude.{IfOk};
+
+    /// Puts a record of 1 to 2,147,483,648 bytes after the others. It need not be on the disk yet.
+    pub fn put<R: Wait>(&self, rt: &R, bytes: Vec<u8>) -> Result<Ticket<J>, JournalFault>
+        ensures { IfOk result (λ t. IsAt t.place bytes.items (log_in J.before t.history)) }
+    {
+        self.books.lock(rt).put(bytes)
     }
 }

@@ -1,15 +1,64 @@
 //! What holds of the definitions.
-ghost use Rattle.std.specs.Prelude.{ℕ, List};
-ghost use Rattle.gw_journal.specs.Logs.{StandsAt};
-ghost use Rattle.gw_journal.specs.Stored.{HasAt, Held};
-ghost use Rattle.gw_log.specs.Chain.{LogState};
+ghost use Rattle.std.specs.Prelude.{Some, ℕ, List};
+ghost use Rattle.std.specs.List.{AllByRecursion};
+ghost use mathlib.Core.List.{IsPrefix};
+ghost use Rattle.gw_journal.specs.Logs.{IsIn, IsJob, IsTrue, JobState, StandsAt, log_in, outcomes};
+ghost use Rattle.gw_journal.specs.Runs.{AreRuns, HasMore};
+ghost use Rattle.gw_journal.specs.Stored.{HasAt, Held, IsKept, IsThere, LeavesOne, StoredState, disk_of};
+ghost use Rattle.gw_journal.specs.declared.event.Event as happened;
 ghost use Rattle.gw_log.specs.Disk.{Files};
 
+use crate::summary::Summary;
 use gw_log::Disk;
 
-/// Whatever crash comes, the record of a receipt stands at its place of the log in the files that it leaves, if the disk did what its calls answered.
-pub fn a_receipt_outlives_a_crash<D: Disk>()
-    ensures { (log : LogState D) (place : ℕ) (bytes : List ℕ) (c : Files) →
-        D.honest log.segment.disk → StandsAt (Held D.honest D.seen D.may_leave) log place bytes →
-        D.may_leave log.segment.disk c → HasAt log.id place bytes c }
+/// Where nothing is asked of a log, whatever crash comes, the files that it leaves are the log with just the records that count, if the disk did what its calls answered.
+pub fn what_counts_is_left<K: Summary, D: Disk>()
+    ensures { (s : StoredState D) (these those : List (List ℕ)) (c : Files) →
+        D.honest (disk_of s) → Held K.tells D.honest D.seen D.may_leave s these those →
+        D.may_leave (disk_of s) c → IsKept K.tells s.id c these }
+{}
+
+/// So the files are a log again, for the next start to open, and the record of a receipt is at its place of the log's records.
+///
+/// `at_rest`: nothing is asked of the log. `at_work`: a crash at any moment of a run of calls, where each list of records that it may leave has the record.
+pub fn a_receipt_outlives_a_crash<K: Summary, D: Disk>()
+    ensures at_rest { (s : StoredState D) (place : ℕ) (bytes : List ℕ) (c : Files) →
+        D.honest (disk_of s) → StandsAt (Held K.tells D.honest D.seen D.may_leave) s place bytes →
+        D.may_leave (disk_of s) c → HasAt K.tells s.id place bytes c }
+    ensures at_work { (old new : StoredState D) (left : List (List (List ℕ))) (place : ℕ) (bytes : List ℕ) (c : Files) →
+        D.honest (disk_of new) → LeavesOne K.tells D.honest D.moment D.left_since old new left →
+        AllByRecursion (λ records. IsIn place bytes records) left →
+        D.left_since (disk_of new) (D.moment (disk_of old)) c → HasAt K.tells old.id place bytes c }
+{}
+
+/// A record that is at its place of all records stands there in the files, or its file is one of those that are gone.
+pub fn it_stands_or_is_gone<K: Summary>()
+    ensures { (id place : ℕ) (bytes : List ℕ) (files : Files) →
+        HasAt K.tells id place bytes files → IsThere id place bytes files }
+{}
+
+/// A crash at any moment of a journal leaves a log that has all records that it was opened with, and maybe more behind them.
+///
+/// `at_rest`: the storage lies under the lock. `at_work`: a thread has it.
+pub fn a_journal_goes_on<K: Summary, D: Disk>()
+    ensures at_rest { (before batch : List (List ℕ)) (history : List happened.Event) (s : StoredState D) (given settled : ℕ) (c : Files) →
+        D.honest (disk_of s) →
+        IsTrue (Held K.tells D.honest D.seen D.may_leave) (Some s) batch given settled (log_in before history) →
+        D.may_leave (disk_of s) c → HasMore K.tells s.id before c }
+    ensures at_work { (before : List (List ℕ)) (job : JobState (StoredState D)) (new : StoredState D) (c : Files) →
+        D.honest (disk_of new) →
+        IsJob (Held K.tells D.honest D.seen D.may_leave) K.tells job (log_in before job.history) →
+        LeavesOne K.tells D.honest D.moment D.left_since job.storage new
+        (outcomes job.next job.settled job.given (log_in before job.history).records) →
+        D.left_since (disk_of new) (D.moment (disk_of job.storage)) c → HasMore K.tells job.storage.id before c }
+{}
+
+/// However many runs follow on each other, each of which opens what a crash left of the one before it, no record is lost: it stays at its place.
+pub fn no_run_loses_a_record<K: Summary>()
+    ensures kept { (id : ℕ) (found left : Files) (before after : List (List ℕ)) →
+        AreRuns K.tells id found before left after → IsKept K.tells id left after }
+    ensures all { (id : ℕ) (found left : Files) (before after : List (List ℕ)) →
+        AreRuns K.tells id found before left after → IsPrefix before after }
+    ensures at { (id : ℕ) (found left : Files) (before after : List (List ℕ)) (place : ℕ) (bytes : List ℕ) →
+        AreRuns K.tells id found before left after → IsIn place bytes before → HasAt K.tells id place bytes left }
 {}

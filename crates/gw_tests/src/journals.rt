@@ -1,7 +1,9 @@
-//! Two threads at one journal, over rows in memory.
+//! Two threads at one journal, over rows in memory; a job that begins the next file; a log as the storage.
 ghost use Rattle.std.specs.Prelude.{◌≡◌, []};
 
-use gw_journal::{Desk, Journal, JournalFault, Naming, Opened, Receipt, Storage};
+use crate::logs::{Folder, no_files};
+use gw_journal::{Desk, Journal, JournalFault, Naming, Opened, Receipt, Storage, Stored};
+use gw_log::{LogFault, Recorded};
 use std::alloc::Global;
 use std::marker::Brand;
 use std::process::Abort;
@@ -9,12 +11,14 @@ use std::sync::Wait;
 use std::test::Fail;
 use std::thread::{Threads, join};
 
-/// What was put, how many rows count, and how often something was brought to the disk.
+/// What was put, how many rows count, how often something was brought to the disk, and of the files how many there are and how many are left.
 #[derive(Drop)]
 struct Rows {
     rows: Vec<Vec<u8>>,
     settled: usize,
     syncs: usize,
+    files: u64,
+    oldest: u64,
 }
 
 impl Storage for Rows {
@@ -22,9 +26,11 @@ impl Storage for Rows {
 
     ghost stands = { λ s these those. ⊤ };
 
-    ghost leaves = { λ old new these those. ⊤ };
+    ghost leaves = { λ old new left. ⊤ };
 
     ghost fails = { λ old new fault. ⊤ };
+
+    ghost tells = { λ records checkpoint. ⊤ };
 
     fn put(&mut self, batch: &[Vec<u8>]) -> Result<(), JournalFault> {
         self.settle()?;
@@ -44,13 +50,48 @@ impl Storage for Rows {
         self.syncs = self.syncs.saturating_add(1);
         Ok(())
     }
+
+    fn begin_next(&mut self, _oldest: u64, _checkpoint: &[u8]) -> Result<(), JournalFault> {
+        self.settle()?;
+        self.files = self.files.saturating_add(1);
+        Ok(())
+    }
+
+    fn retire(&mut self) -> Result<bool, JournalFault> {
+        if self.oldest >= self.files {
+            return Ok(false);
+        }
+        self.oldest = self.oldest.saturating_add(1);
+        Ok(true)
+    }
+
+    fn size(&self) -> usize {
+        self.rows.len()
+    }
+
+    ghost at_rest = { λ s these those stand. tt };
+
+    ghost goes_on = { λ old mid new left first second. tt };
+
+    ghost widens = { λ old new left more among one. tt };
+}
+
+// No row.
+fn no_rows(alloc: Global) -> Rows {
+    Rows {
+        rows: Vec::new(alloc),
+        settled: 0,
+        syncs: 0,
+        files: 1,
+        oldest: 1,
+    }
 }
 
 /// Puts a record, and waits for its receipt.
 fn store<J: Naming, R: Wait>(
     rt: &R,
     alloc: Global,
-    journal: &Journal<J, Rows>,
+    journal: &Journal<J, Desk<J, Rows>>,
     bytes: &[u8],
 ) -> Option<Receipt<J>> {
     let copy = Vec::from_slice(alloc, bytes).ok()?;
@@ -66,12 +107,8 @@ fn stored_by_two<J: Naming + Send + Sync, R: Threads + Wait + Abort + Sync>(
     requires book { opened.seen.book ≡ J.book }
     requires before { J.before ≡ [] }
 {
-    let rows = Rows {
-        rows: Vec::new(alloc),
-        settled: 0,
-        syncs: 0,
-    };
-    let journal = Journal::new(alloc, Desk::<J, Rows>::open(alloc, opened, rows, 0));
+    let desk = Desk::<J, Rows>::open(alloc, opened, no_rows(alloc), 0);
+    let journal = Journal::new(alloc, desk);
     let (one, other) = join(
         rt,
         || store(rt, alloc, &journal, b"first"),
@@ -79,7 +116,7 @@ fn stored_by_two<J: Naming + Send + Sync, R: Threads + Wait + Abort + Sync>(
     );
     let (one, other) = (one.ok_or("a receipt")?, other.ok_or("a receipt")?);
     let refused = journal.put(rt, Vec::new(alloc)).err();
-    let rows = journal.into_desk().close(&other).ok_or("closes")?;
+    let rows = journal.into_books().close(&other).ok_or("closes")?;
     let first = rows.rows.get(one.place() as usize).ok_or("the first row")?;
     assert!(rt; first.as_slice() == b"first".as_slice() && one.place() != other.place());
     assert!(rt; refused == Some(JournalFault::Empty));
@@ -92,4 +129,62 @@ fn stored_by_two<J: Naming + Send + Sync, R: Threads + Wait + Abort + Sync>(
 #[test]
 fn each_thread_has_its_receipt(rt: HostRuntime) -> Result<(), Fail> {
     stored_by_two::<Brand, _>(&rt, rt.alloc(), Opened::new())
+}
+
+fn turned_once<J: Naming, R: Wait + Abort>(
+    rt: &R,
+    alloc: Global,
+    opened: Opened,
+) -> Result<(), Fail>
+    requires book { opened.seen.book ≡ J.book }
+    requires before { J.before ≡ [] }
+{
+    let desk = Desk::<J, Rows>::open(alloc, opened, no_rows(alloc), 0);
+    let journal = Journal::new(alloc, desk);
+    let ticket = journal.put(rt, Vec::from_slice(alloc, b"first")?)?;
+    let job = journal.lock(rt).take(alloc).ok_or("a job")?;
+    let checkpoint = Vec::from_slice(alloc, b"one")?;
+    let Ok(done) = job.turning(1, checkpoint).run() else {
+        return Err("it begins the next file".into());
+    };
+    journal.lock(rt).give_back(done);
+    // (what was put before the next file counts, with no sync more)
+    let receipt = journal.settle(rt, &ticket)?;
+    let rows = journal.into_books().close(&receipt).ok_or("closes")?;
+    assert!(rt; rows.settled == 1 && rows.syncs == 2 && rows.files == 2 && rows.oldest == 2);
+    Ok(())
+}
+
+/// A job that begins the next file settles what it was given, and removes the file that is needed no more.
+#[test]
+fn a_job_begins_the_next_file(rt: HostRuntime) -> Result<(), Fail> {
+    turned_once::<Brand, _>(&rt, rt.alloc(), Opened::new())
+}
+
+// A log whose first file is gone.
+fn second_alone(alloc: Global) -> Result<Folder, LogFault> {
+    let folder = Folder::new(alloc, &no_files(alloc)?, 100)?;
+    let disk = Recorded::<Folder, Brand>::new(folder);
+    let mut log = match Stored::<Brand, _>::create(alloc, disk, 7, b"start") {
+        Ok(log) => log,
+        Err((fault, _)) => return Err(fault),
+    };
+    if log.begin_next(2, b"later").is_err() || log.retire() != Ok(true) {
+        return Err(LogFault::Device);
+    }
+    Ok(log.into_disk().into_calls())
+}
+
+/// A log that is opened gives the checkpoint of its last file, and the records behind it.
+#[test]
+fn a_start_reads_the_last_file(rt: HostRuntime) -> Result<(), Fail> {
+    let alloc = rt.alloc();
+    let disk = Recorded::<Folder, Brand>::new(second_alone(alloc)?);
+    let (_, last) = match Stored::<Brand, _>::open(alloc, disk, 7) {
+        Ok(found) => found,
+        Err((fault, _)) => return Err(fault.into()),
+    };
+    assert!(rt; last.checkpoint() == b"later".as_slice());
+    assert!(rt; last.records().is_empty());
+    Ok(())
 }

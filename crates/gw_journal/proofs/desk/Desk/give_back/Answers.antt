@@ -1,6 +1,6 @@
 use Rattle.std.proofs.Common.{◌≡◌, ◌++◌, ◌∷◌, [], refl, sym, subst}
 use Rattle.std.proofs.lemmas.Bool.{false≢true}
-use Rattle.gw_journal.specs.Logs.{ComesBack, DeskState, IsDone, JobState, log_in, records_of}
+use Rattle.gw_journal.specs.Logs.{ComesBack, DeskState, DoneState, IsDone, log_in, records_of}
 use Rattle.gw_journal.specs.declared.event.Event.TheVariants.{Synced}
 use Rattle.gw_journal.proofs.Logging.{true_back, synced_more, synced_now}
 use Rattle.gw_journal.proofs.desk.Desk.give_back.Goals as goal
@@ -15,9 +15,8 @@ pub invariant_of-self-2 : goal.invariant_of-self-2
 invariant_of-self-2 g c =
     let desk = c.self.inside in
     let done = c.done.inside in
-    let taken : JobState g.row.S.Denot = record {
+    let taken : DoneState g.row.S.Denot = record {
       storage = done.storage;
-      batch = [];
       given = done.given;
       settled = done.settled;
       history = done.front;
@@ -32,7 +31,7 @@ invariant_of-self-2 g c =
     } in
     let back : ComesBack here taken = subst (λ d. ComesBack d taken) (sym c.self.view_is) (subst (λ j. ComesBack c.args.self.now j) (sym c.done.view_is) (c.if-not-is_ours.ensures.0 refl)) in
     let is : c.add.new.self ≡ desk.history ++ Synced done.settled ∷ [] = c.if-not-add.ensures.added refl in
-    let all = subst (λ n. IsDone g.S.Storage.stands (record { storage = done.storage; batch = []; given = n; settled = done.settled; history = done.front })
+    let all = subst (λ n. IsDone g.S.Storage.stands (record { storage = done.storage; given = n; settled = done.settled; history = done.front })
     (log_in g.J.Naming.before done.front)) back.given c.done.invariant in (
       (λ ok. true_back g.S.Storage.stands g.J.Naming.before desk.storage done.storage (records_of desk.batch.items) desk.given done.settled desk.settled
           done.front desk.history c.add.new.self back.part is back.more all (c.self.invariant.0 ok)),

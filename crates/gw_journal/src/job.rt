@@ -1,0 +1,203 @@
+//! What a thread takes from under the lock, to bring it to the disk with the lock free.
+ghost use Rattle.std.specs.Prelude.{◌≡◌, ◌++◌, ◌∷◌, [], IfOk, IfErr, IsNone, IsSome, OnOk, Some, ℕ, List};
+ghost use Rattle.gw_journal.specs.Logs.{AreFit, HasFailed, NoneIsLost, log_in, outcomes, records_of};
+
+use crate::book::{Front, Naming};
+use crate::fault::JournalFault;
+use crate::storage::Storage;
+use std::marker::Model;
+
+/// The most files that are removed for one file that is begun.
+const MOST: u8 = 4;
+
+/// The storage with a batch that it is to be given. An empty one: what is pending is to count. It may have to begin the next file too.
+#[derive(Drop)]
+pub struct Job<J: Naming, S: Storage + Drop> {
+    pub(crate) storage: S,
+    pub(crate) batch: Vec<Vec<u8>>,
+    pub(crate) given: u64,
+    pub(crate) settled: u64,
+    pub(crate) front: Front<J>,
+    pub(crate) oldest: u64,
+    pub(crate) checkpoint: Option<Vec<u8>>,
+}
+
+impl<J: Naming, S: Storage + Drop> Model for Job<J, S> {
+    ghost use Rattle.gw_journal.specs.Logs.{JobState, IsJob, bytes_of, log_in, records_of};
+
+    ghost Value = { JobState S };
+
+    ghost view = { λ j. record {
+      storage = j.storage;
+      batch = records_of j.batch.items;
+      given = j.given;
+      settled = j.settled;
+      history = j.front;
+      next = bytes_of j.checkpoint;
+    } };
+
+    ghost invariant = { λ j. IsJob S.stands S.tells (record {
+      storage = j.storage;
+      batch = records_of j.batch.items;
+      given = j.given;
+      settled = j.settled;
+      history = j.front;
+      next = bytes_of j.checkpoint;
+    }) (log_in J.before j.front) };
+}
+
+/// The storage, which has all that was put when it was taken.
+#[derive(Drop)]
+pub struct Done<J: Naming, S: Storage + Drop> {
+    pub(crate) storage: S,
+    pub(crate) given: u64,
+    pub(crate) settled: u64,
+    pub(crate) front: Front<J>,
+}
+
+impl<J: Naming, S: Storage + Drop> Model for Done<J, S> {
+    ghost use Rattle.gw_journal.specs.Logs.{DoneState, IsDone, log_in};
+
+    ghost Value = { DoneState S };
+
+    ghost view = { λ d. record { storage = d.storage; given = d.given; settled = d.settled; history = d.front } };
+
+    ghost invariant = { λ d. IsDone S.stands (record { storage = d.storage; given = d.given; settled = d.settled; history = d.front })
+        (log_in J.before d.front) };
+}
+
+// Gives a storage a batch. With an empty one it settles.
+fn bring<S: Storage>(storage: &mut S, batch: &[Vec<u8>]) -> Result<(), JournalFault>
+    requires { AreFit (records_of batch.now) }
+    ensures ok { (these those : List (List ℕ)) → S.stands storage.old these those →
+        OnOk result (S.stands storage.new (these ++ those) (records_of batch.now)) }
+    ensures any_moment { (these those : List (List ℕ)) → S.stands storage.old these those →
+        S.leaves storage.old storage.new (these ∷ (these ++ those) ∷ []) }
+    ensures err { IfErr result (λ fault. S.fails storage.old storage.new fault) }
+{
+    if batch.is_empty() {
+        return storage.settle();
+    }
+    storage.put(batch)
+}
+
+// Removes the first files of those that are needed no more.
+fn retire<S: Storage>(storage: &mut S) -> Result<(), JournalFault>
+    ensures ok { (these those : List (List ℕ)) → S.stands storage.old these those →
+        OnOk result (S.stands storage.new these those) }
+    ensures any_moment { (these those : List (List ℕ)) → S.stands storage.old these those →
+        S.leaves storage.old storage.new (these ∷ []) }
+    ensures err { IfErr result (λ fault. HasFailed S.fails storage.new fault) }
+{
+    for _ in 0..MOST {
+        if !storage.retire()? {
+            break;
+        }
+    }
+    Ok(())
+}
+
+// Gives a storage a batch, and begins the next file.
+fn turn<S: Storage>(
+    storage: &mut S,
+    batch: &[Vec<u8>],
+    oldest: u64,
+    checkpoint: &[u8],
+) -> Result<(), JournalFault>
+    requires { AreFit (records_of batch.now) }
+    ensures ok { (these those : List (List ℕ)) → S.stands storage.old these those →
+        S.tells ((these ++ those) ++ records_of batch.now) checkpoint.now →
+        OnOk result (S.stands storage.new ((these ++ those) ++ records_of batch.now) []) }
+    ensures any_moment { (these those : List (List ℕ)) → S.stands storage.old these those →
+        S.tells ((these ++ those) ++ records_of batch.now) checkpoint.now →
+        S.leaves storage.old storage.new (these ∷ (these ++ those) ∷ ((these ++ those) ++ records_of batch.now) ∷ []) }
+    ensures err { IfErr result (λ fault. HasFailed S.fails storage.new fault) }
+{
+    bring(storage, batch)?;
+    storage.begin_next(oldest, checkpoint)?;
+    retire(storage)
+}
+
+impl<J: Naming, S: Storage + Drop> Job<J, S> {
+    /// How many bytes the last file of the storage has.
+    pub fn size(&self) -> usize {
+        self.storage.size()
+    }
+
+    /// The same job, which also begins the next file behind its batch, and removes up to four that are needed no more. Its checkpoint tells of all records.
+    ///
+    /// Files of a number below `oldest` are needed no more.
+    pub fn turning(self, oldest: u64, checkpoint: Vec<u8>) -> Job<J, S>
+        requires { S.tells (log_in J.before self.history).records checkpoint.items }
+        ensures { result ≡ record self { next = Some checkpoint.items } }
+    {
+        let Job {
+            storage,
+            batch,
+            given,
+            settled,
+            front,
+            ..
+        } = self;
+        Job {
+            storage,
+            batch,
+            given,
+            settled,
+            front,
+            oldest,
+            checkpoint: Some(checkpoint),
+        }
+    }
+
+    /// Gives the storage its batch, or has it settle, and begins the next file, where it is to. A crash at any moment leaves each record that there was a receipt for.
+    pub fn run(self) -> Result<Done<J, S>, (JournalFault, S)>
+        ensures same { IfOk result (λ done. done.history ≡ self.history) }
+        // Where the next file was begun, all that was put counts.
+        ensures settled { IsSome self.next → IfOk result (λ done. done.settled ≡ done.given) }
+
+        // What a crash leaves, also where the call fails: nothing of it lacks a record that there was a receipt for.
+        ensures any_moment { IfOk result (λ done. S.leaves self.storage done.storage
+            (outcomes self.next self.settled self.given (log_in J.before self.history).records)) }
+        ensures any_moment_err { IfErr result (λ e. S.leaves self.storage e.1
+            (outcomes self.next self.settled self.given (log_in J.before self.history).records)) }
+        ensures none_is_lost { NoneIsLost (log_in J.before self.history)
+            (outcomes self.next self.settled self.given (log_in J.before self.history).records) }
+
+        // A fault is the storage's own.
+        ensures err { IfErr result (λ e. HasFailed S.fails e.1 e.0) }
+        ensures err_at_once { IsNone self.next → IfErr result (λ e. S.fails self.storage e.1 e.0) }
+    {
+        let Job {
+            storage,
+            batch,
+            given,
+            settled: _,
+            front,
+            oldest,
+            checkpoint,
+        } = self;
+        let mut storage = storage;
+        let count = given + batch.len() as u64;
+        match checkpoint {
+            None => match bring(&mut storage, &batch) {
+                Err(fault) => Err((fault, storage)),
+                Ok(()) => Ok(Done {
+                    storage,
+                    given: count,
+                    settled: given,
+                    front,
+                }),
+            },
+            Some(checkpoint) => match turn(&mut storage, &batch, oldest, &checkpoint) {
+                Err(fault) => Err((fault, storage)),
+                Ok(()) => Ok(Done {
+                    storage,
+                    given: count,
+                    settled: count,
+                    front,
+                }),
+            },
+        }
+    }
+}
