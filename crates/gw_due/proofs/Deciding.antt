@@ -6,7 +6,7 @@ use Rattle.std.proofs.lemmas.Bool.{and_parts, eqb-true, lt-ltb, ltb-true, le-leb
 use Rattle.std.proofs.lemmas.List.{length-drop}
 use Rattle.std.proofs.lemmas.Option.{slice_get_within}
 use Rattle.gw_due.specs.Events.{Event, Planned, Accepted, Again, Passed, Named, Margin, Retired}
-use Rattle.gw_due.specs.Due.{left, last, names}
+use Rattle.gw_due.specs.Due.{left, last, Name, names}
 use Rattle.gw_due.specs.Lawful.{Lawful, MayFollow, is_named}
 use Rattle.gw_due.specs.State.{Receiver, State, state_of, is_known, is_above, awaits, allows}
 use Rattle.gw_due.specs.Says.{SaysOf, IsSeen}
@@ -69,7 +69,7 @@ is_there n place (r ∷ rs) is = by_number (nat_eq r.number n) is (is_there n pl
     by_number true is rest = refl
     by_number false is rest = rest is
 
-module _ (Routes : (plan to bytes : List ℕ) → Type 0) (log : List Event) (s : State) (is : Stands Routes log s) where
+module _ (Routes : (names : List Name) (plan to bytes : List ℕ) → Type 0) (log : List Event) (s : State) (is : Stands Routes log s) where
   named_all : (to : List ℕ) → list_all (is_known s.receivers) to ≡ list_all (is_named (names log)) to
   named_all to = same_all (is_known s.receivers) (is_named (names log)) is.has.known to
 
@@ -108,7 +108,7 @@ module _ (Routes : (plan to bytes : List ℕ) → Type 0) (log : List Event) (s 
   seen (Margin number) both = omega (arith, is.says.margin, leb-true s.margin number both.0)
   seen (Retired segment) both = omega (arith, is.says.oldest, leb-true s.oldest segment both.0)
 
-pub decides : (Routes : (plan to bytes : List ℕ) → Type 0) (log : List Event) (e : Event) → Lawful Routes log
+pub decides : (Routes : (names : List Name) (plan to bytes : List ℕ) → Type 0) (log : List Event) (e : Event) → Lawful Routes log
     → MayFollow Routes log e ↔ (IsTrue (allows (state_of log) e) × IsSeen Routes log e)
 decides Routes log e lawful =
     let is = stands Routes log lawful in

@@ -5,7 +5,7 @@ use Rattle.std.proofs.lemmas.Bool.{eqb-true}
 use Rattle.std.proofs.lemmas.List.{append-nil}
 use mathlib.Core.List.{IsPrefix}
 use Rattle.gw_due.specs.Events.{Event, Planned, Accepted, Again, Passed, Named, Margin, Retired, How}
-use Rattle.gw_due.specs.Due.{due_by, due_from, due, passed_by, passed, refused_by, refused, left, plan, plan_at}
+use Rattle.gw_due.specs.Due.{due_by, due_from, due, passed_by, passed, refused_by, refused, left, plan, plan_at, Name}
 use Rattle.gw_due.specs.Lawful.{Lawful, no_event, one_more, MayFollow}
 
 pub due_append : (r at : ℕ) (xs ys : List Event) → due_from r at (xs ++ ys) ≡ due_from r at xs ++ due_from r (at + length xs) ys
@@ -64,7 +64,7 @@ prefix_next done all more place p next =
           ∙ ap (λ l. l ++ more) p.1,
     )
 
-module _ (Routes : (plan to bytes : List ℕ) → Type 0) where
+module _ (Routes : (names : List Name) (plan to bytes : List ℕ) → Type 0) where
   none_by : (r : ℕ) (log : List Event) (e : Event) → passed_by r e ≡ [] → IsPrefix (passed r log) (due r log) → IsPrefix (passed r (log ++ e ∷ [])) (due r (log ++ e ∷ []))
   none_by r log e is p =
       let same : passed r (log ++ e ∷ []) ≡ passed r log =

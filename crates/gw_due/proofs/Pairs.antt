@@ -46,7 +46,7 @@ one_pair_more ns n pairs all i j d before within =
           (subst (λ y. IsOnePair (get_or ns i d) y) there (agree n.number n.name (get_or ns i d) (at_each (agrees n.number n.name) ns i d all first)))
     ]
 
-module _ (Routes : (plan to bytes : List ℕ) → Type 0) where
+module _ (Routes : (names : List Name) (plan to bytes : List ℕ) → Type 0) where
   quiet : (log : List Event) (e : Event) → names_by e ≡ [] → AllPairs IsOnePair (names log) → AllPairs IsOnePair (names (log ++ e ∷ []))
   quiet log e none pairs = subst (λ l. AllPairs IsOnePair l) (sym (names_then log e ∙ ap (λ l. names log ++ l) none ∙ append-nil (names log))) pairs
 

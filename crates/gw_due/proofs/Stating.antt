@@ -6,7 +6,7 @@ use Rattle.std.proofs.lemmas.List.{append-nil, length-append}
 use Rattle.std.proofs.lemmas.List.Sums.{fold-append}
 use Rattle.std.proofs.lemmas.List.Folds.{list_any-append, list_all-append}
 use Rattle.gw_due.specs.Events.{Event, Planned, Accepted, Again, Passed, Named, Margin, Retired}
-use Rattle.gw_due.specs.Due.{plan, plan_by, last_by, margin_by, oldest_by, names, names_by}
+use Rattle.gw_due.specs.Due.{plan, plan_by, last_by, margin_by, oldest_by, Name, names, names_by}
 use Rattle.gw_due.specs.Lawful.{Lawful, no_event, one_more, MayFollow, is_named, agrees}
 use Rattle.gw_due.specs.State.{Receiver, State, receiver_by, receivers_by, plan_place, after, nothing, state_of, is_known}
 use Rattle.gw_due.specs.Says.{Says, SaysOf, IsPlanAt}
@@ -60,7 +60,7 @@ and_end : (b : Bool) → (b && true) ≡ b
 and_end true = refl
 and_end false = refl
 
-name_step : (log : List Event) (e : Event) (at : ℕ) (rs : List Receiver) (Routes : (plan to bytes : List ℕ) → Type 0) → MayFollow Routes log e
+name_step : (log : List Event) (e : Event) (at : ℕ) (rs : List Receiver) (Routes : (names : List Name) (plan to bytes : List ℕ) → Type 0) → MayFollow Routes log e
     → HasNames log rs → HasNames (log ++ e ∷ []) (receivers_by at e rs)
 name_step log (Planned text) at rs Routes may has = no_name log (Planned text) at rs refl has
 name_step log (Accepted number to bytes) at rs Routes may has = no_name log (Accepted number to bytes) at rs refl has
@@ -83,7 +83,7 @@ same_each : (f : Receiver → Receiver) → ((r : Receiver) → f r ≡ r) → (
 same_each f same [] = refl
 same_each f same (r ∷ rs) = ap (λ x. x ∷ map f rs) (same r) ∙ ap (λ l. r ∷ l) (same_each f same rs)
 
-module _ (Routes : (plan to bytes : List ℕ) → Type 0) where
+module _ (Routes : (names : List Name) (plan to bytes : List ℕ) → Type 0) where
   abbrev AllSay : List Event → List Receiver → Type 0
   AllSay log rs = AllByRecursion (SaysOf log) rs
 

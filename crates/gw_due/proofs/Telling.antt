@@ -89,7 +89,7 @@ is_false : (b : Bool) → (b ≡ true → ⊥) → b ≡ false
 is_false true h = absurd (h refl)
 is_false false h = refl
 
-module _ (Routes : (plan to bytes : List ℕ) → Type 0) where
+module _ (Routes : (names : List Name) (plan to bytes : List ℕ) → Type 0) where
   one_step : (log : List Event) (e : Event) (r : Receiver) → MayFollow Routes log e → IsPrefix (passed r.number log) (due r.number log)
       → SaysOf log r → SaysOf (log ++ e ∷ []) (receiver_by (length log) e r)
   one_step log (Planned text) r may prefix says = quiet log (Planned text) r (λ k. refl) refl refl says

@@ -23,11 +23,11 @@ agrees r name n = if nat_eq n.number r then bytes_eq n.name name else not (bytes
 abbrev pub IsOnePair : Name → Name → Type 0
 IsOnePair n m = (n.number ≡ m.number) ↔ (n.name ≡ m.name)
 
-module _ (Routes : (plan to bytes : List ℕ) → Type 0) where
+module _ (Routes : (names : List Name) (plan to bytes : List ℕ) → Type 0) where
   -- A message is accepted for the receivers of its route under the plan in force, to which it conforms. Its number is above all
   -- numbers before, and below the margin.
   pub record MayAccept (log : List Event) (number : ℕ) (to bytes : List ℕ) : Type 0 where
-    pub routed : Routes (plan log) to bytes
+    pub routed : Routes (names log) (plan log) to bytes
     pub named : IsTrue (list_all (is_named (names log)) to)
     pub above : IfSome (last log) (λ n. n < number)
     pub below : number < margin log

@@ -2,7 +2,7 @@
 use Rattle.std.specs.Prelude.{◌≡◌, ⊤, ℕ, ◌≤◌, List, [], length, drop, Option, Some, None, slice_get}
 use Rattle.std.specs.List.{AllByRecursion}
 use Rattle.gw_due.specs.Events.{Event, Planned, Accepted, Again, Passed}
-use Rattle.gw_due.specs.Due.{due_from, left, refused, plan, last, margin, oldest}
+use Rattle.gw_due.specs.Due.{due_from, left, refused, plan, last, margin, oldest, Name, names}
 use Rattle.gw_due.specs.Lawful.{IsAccepted}
 use Rattle.gw_due.specs.State.{Receiver, State}
 
@@ -28,9 +28,9 @@ pub record Says (log : List Event) (s : State) : Type 0 where
 
 -- What no state can say of an event, and who reads the log sees. The plan in force routes a message so, and it conforms.
 -- A message that is due again was accepted at its place. The place that is passed is the first that is left.
-module _ (Routes : (plan to bytes : List ℕ) → Type 0) where
+module _ (Routes : (names : List Name) (plan to bytes : List ℕ) → Type 0) where
   abbrev pub IsSeen : List Event → Event → Type 0
-  IsSeen log (Accepted number to bytes) = Routes (plan log) to bytes
+  IsSeen log (Accepted number to bytes) = Routes (names log) (plan log) to bytes
   IsSeen log (Again receiver place) = IsAccepted place log
   IsSeen log (Passed receiver place how) = slice_get (left receiver log) 0 ≡ Some place
   IsSeen log _ = ⊤

@@ -1,5 +1,5 @@
 -- What a start has to know of a log.
-use Rattle.std.specs.Prelude.{ℕ, ◌+◌, ◌-◌, Bool, true, nat_eq, nat_lt, nat_le, ◌&&◌, if◌then◌else◌, List, [], ◌∷◌, map, Option, None, Some}
+use Rattle.std.specs.Prelude.{ℕ, ◌+◌, ◌-◌, Bool, true, false, nat_eq, nat_lt, nat_le, ◌&&◌, if◌then◌else◌, List, [], ◌∷◌, map, Option, None, Some}
 use Rattle.std.specs.List.{fold, list_any, list_all}
 use Rattle.gw_due.specs.Events.{How, Refused, Event, Planned, Accepted, Again, Passed, Named, Margin, Retired}
 use Rattle.gw_due.specs.Due.{is_among, last_by, margin_by, oldest_by, Name}
@@ -49,6 +49,11 @@ receiver_by at _ r = r
 abbrev pub named : ℕ → List ℕ → List ℕ → List Receiver → List Receiver
 named n name address [] = record { number = n; name = name; address = address; from = 0; left = 0; refused = 0 } ∷ []
 named n name address (r ∷ rs) = if nat_eq r.number n then record r { address = address } ∷ rs else r ∷ named n name address rs
+
+-- it gives a name, or an address: it alone takes memory
+abbrev pub is_naming : Event → Bool
+is_naming (Named n name address) = true
+is_naming _ = false
 
 abbrev pub receivers_by : ℕ → Event → List Receiver → List Receiver
 receivers_by at (Named n name address) rs = named n name address rs

@@ -2,7 +2,7 @@
 ghost use Rattle.std.specs.Prelude.{◌≡◌, nat_eq, map, OnOk, OnErr, IsTrue};
 ghost use Rattle.std.specs.List.{position, list_all};
 ghost use Rattle.gw_due.specs.Due.{last_by, margin_by, oldest_by};
-ghost use Rattle.gw_due.specs.State.{receiver_by, receivers_by, named, plan_place};
+ghost use Rattle.gw_due.specs.State.{is_naming, receiver_by, receivers_by, named, plan_place};
 ghost use Rattle.gw_due.specs.Views as view;
 ghost use Rattle.gw_due.specs.own.Steps.{PassesBelow, has_room_for_one};
 
@@ -61,6 +61,7 @@ pub(crate) fn follow(
     requires place { PassesBelow 18446744073709551615 (view.event event.now) }
     ensures ok { OnOk result (receivers.new.items ≡ receivers_by at (view.event event.now) receivers.old.items) }
     ensures err { OnErr result (receivers.new.items ≡ receivers.old.items) }
+    ensures memory { OnErr result (IsTrue (is_naming (view.event event.now))) }
 {
     if let Event::Named {
         receiver,

@@ -3,7 +3,7 @@ ghost use Rattle.std.specs.Prelude.{◌≡◌, ◌↔◌, ◌<◌, ◌++◌, Lis
 ghost use Rattle.std.specs.List.{AllPairs, fold};
 ghost use mathlib.Core.List.{IsPrefix};
 ghost use Rattle.gw_due.specs.Events.{Event};
-ghost use Rattle.gw_due.specs.Due.{due, due_since, names, passed, plan_at};
+ghost use Rattle.gw_due.specs.Due.{due, due_since, Name, names, passed, plan_at};
 ghost use Rattle.gw_due.specs.Lawful.{IsOnePair, Lawful, MayFollow};
 ghost use Rattle.gw_due.specs.Runs.{Covers, Runs};
 ghost use Rattle.gw_due.specs.State.{State, after, allows, state_of};
@@ -15,7 +15,8 @@ ghost use Rattle.gw_due.specs.Starting.{IsStateOf, Starts};
 /// What a plan says of a message.
 pub trait Rules {
     /// By the plan of this text, these are the receivers of the message of these bytes, which conforms to the profile of its route.
-    ghost routes: { (plan to bytes : List ℕ) → Type 0 };
+    /// The names say which receivers the numbers are.
+    ghost routes: { (names : List Name) (plan to bytes : List ℕ) → Type 0 };
 }
 
 /// In a lawful log each receiver passes what is due to it in order. Nothing is passed over.

@@ -80,6 +80,14 @@ impl Receiver {
         }
     }
 
+    // A copy.
+    pub(crate) fn copy(&self, alloc: Global) -> Result<Self, AllocError>
+        ensures { IfOk result (λ r. r ≡ self.now) }
+    {
+        let one = Receiver::new(alloc, self.number, &self.name, &self.address)?;
+        Ok(one.with_counts(self.from, self.left, self.refused))
+    }
+
     /// Its number, for good.
     pub fn number(&self) -> u32
         ensures { result ≡ self.now.number }

@@ -1,5 +1,5 @@
 //! What a start has to know of a log.
-ghost use Rattle.std.specs.Prelude.{◌≡◌};
+ghost use Rattle.std.specs.Prelude.{◌≡◌, IfOk};
 ghost use Rattle.std.specs.List.{list_any, list_all};
 ghost use Rattle.gw_due.specs.Lawful.{agrees};
 ghost use Rattle.gw_due.specs.State.{is_known, is_above, awaits, name_of};
@@ -9,7 +9,7 @@ use crate::event::Event;
 use crate::fault::StateFault;
 use crate::following::{follow, last_number, margin, oldest, plan_place};
 use crate::receiver::Receiver;
-use std::alloc::Global;
+use std::alloc::{AllocError, Global};
 use std::marker::Model;
 
 /// What a start has to know of a log: a fold over its events.
@@ -79,8 +79,18 @@ fn have_room(receivers: &[Receiver]) -> bool
         .all(|r| r.left() < u64::MAX && r.refused() < u64::MAX)
 }
 
+fn copy_all(alloc: Global, receivers: &[Receiver]) -> Result<Vec<Receiver>, AllocError>
+    ensures { IfOk result (λ all. all.items ≡ receivers.now) }
+{
+    let mut all = Vec::new(alloc);
+    for one in receivers {
+        all.push(one.copy(alloc)?)?;
+    }
+    Ok(all)
+}
+
 impl State {
-    ghost use Rattle.std.specs.Prelude.{◌≡◌, OnOk, OnErr, IsErrOf, IsTrue, IsFalse};
+    ghost use Rattle.std.specs.Prelude.{◌≡◌, IfOk, OnOk, OnErr, IsErrOf, IsTrue, IsFalse};
     ghost use Rattle.gw_due.specs.State as spec;
     ghost use Rattle.gw_due.specs.Views as view;
 
@@ -116,6 +126,21 @@ impl State {
             oldest,
             receivers,
         }
+    }
+
+    /// A copy.
+    pub fn copy(&self, alloc: Global) -> Result<Self, AllocError>
+        ensures { IfOk result (λ s. s ≡ self.now) }
+    {
+        let receivers = copy_all(alloc, &self.receivers)?;
+        Ok(State::restored(
+            self.next,
+            self.plan,
+            self.last,
+            self.margin,
+            self.oldest,
+            receivers,
+        ))
     }
 
     /// The place of the next record.
@@ -201,6 +226,7 @@ impl State {
         ensures unlawful { IsErrOf result StateFault.Unlawful →
             IsFalse (spec.allows self.old (view.event event.now)) }
         ensures full { IsErrOf result StateFault.Full → IsFalse (spec.has_room self.old) }
+        ensures memory { IsErrOf result StateFault.Memory → IsTrue (spec.is_naming (view.event event.now)) }
     {
         if !self.may_follow(event) {
             return Err(StateFault::Unlawful);

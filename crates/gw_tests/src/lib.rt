@@ -24,6 +24,8 @@ mod gates;
 #[cfg(test)]
 mod journals;
 #[cfg(test)]
+mod ledgers;
+#[cfg(test)]
 mod locked;
 #[cfg(test)]
 mod logs;

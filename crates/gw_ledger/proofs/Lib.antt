@@ -1,0 +1,4 @@
+pub mod Ledging
+pub mod Desks
+pub mod Passing
+pub mod Routing

@@ -1,0 +1,55 @@
+-- A journal whose records spell the events of a gateway's log, and the state of these events.
+use Rattle.std.specs.Prelude.{◌≡◌, ℕ, List, map}
+use Rattle.std.specs.List.{AllByRecursion}
+use Rattle.gw_due.specs.Events.{Event}
+use Rattle.gw_due.specs.Due.{Name}
+use Rattle.gw_due.specs.Lawful.{Lawful}
+use Rattle.gw_due.specs.Says.{IsSeen}
+use Rattle.gw_due.specs.State.{State, state_of}
+use Rattle.gw_due.specs.Spelling.{Entry, Fits, spelled}
+use Rattle.gw_due.specs.Checkpoint.{checkpoint, StateFits}
+use Rattle.gw_journal.specs.Logs.{DeskState}
+
+-- these records spell these entries, each in its one spelling
+pub record Spells (records : List (List ℕ)) (entries : List Entry) : Type 0 where
+  pub are : records ≡ map spelled entries
+  pub fit : AllByRecursion Fits entries
+
+abbrev pub events_of : List Entry → List Event
+events_of entries = map (λ e. e.event) entries
+
+-- these records spell a lawful log
+pub record IsLawful (Routes : (names : List Name) (plan to bytes : List ℕ) → Type 0) (records : List (List ℕ)) : Type 0 where
+  pub entries : List Entry
+  pub spells : Spells records entries
+  pub lawful : Lawful Routes (events_of entries)
+
+-- this is the state of the events of these records. It says what they say only where they are lawful:
+-- they are, if what was read of the log beside its journal is what was written
+pub record IsInState (Routes : (names : List Name) (plan to bytes : List ℕ) → Type 0) (faithful : Type 0)
+    (records : List (List ℕ)) (s : State) : Type 0 where
+  pub entries : List Entry
+  pub spells : Spells records entries
+  pub is : s ≡ state_of (events_of entries)
+  pub lawful : faithful → Lawful Routes (events_of entries)
+
+-- these records show what no state can say of the event, if what was read is what was written
+abbrev pub IsSeenIn : (Routes : (names : List Name) (plan to bytes : List ℕ) → Type 0) → Type 0 → List (List ℕ) → Event → Type 0
+IsSeenIn Routes faithful records e = (entries : List Entry) → Spells records entries → faithful → IsSeen Routes (events_of entries) e
+
+-- the bytes are the one spelling of this state
+pub record IsCheckpoint (s : State) (bytes : List ℕ) : Type 0 where
+  pub spells : bytes ≡ checkpoint s
+  pub fits : StateFits s
+
+-- the checkpoint is that of the events of these records
+abbrev pub Tells : List (List ℕ) → List ℕ → Type 0
+Tells records bytes = (entries : List Entry) → Spells records entries → IsCheckpoint (state_of (events_of entries)) bytes
+
+-- what lies under the lock: the journal's desk; the state of all that was put; the next file is begun where the last one has more
+-- bytes than this; files of a number below the oldest are needed no more
+pub record LedgerState (S : Type 0) : Type 0 where
+  pub desk : DeskState S
+  pub state : State
+  pub limit : ℕ
+  pub oldest : ℕ

@@ -1,0 +1,5 @@
+pub mod Ledgers
+pub mod Putting
+pub mod Finding
+pub mod Accepting
+pub mod own

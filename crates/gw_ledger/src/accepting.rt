@@ -1,0 +1,157 @@
+//! Messages that are accepted.
+ghost use Rattle.std.specs.Prelude.{◌≡◌, ◌↔◌, ◌⊎◌, IfOk, IfErr, IfSome, IsErrOf, IsNone, IsTrue, OnOk, Some};
+ghost use mathlib.Core.List.{IsPrefix};
+ghost use Rattle.gw_due.specs.Events as events;
+ghost use Rattle.gw_due.specs.Spelling as spelling;
+ghost use Rattle.gw_journal.specs.Logs.{HasGrown, IsAt, log_in};
+ghost use Rattle.gw_ledger.specs.Accepting.{IsInForce, IsRouted};
+ghost use Rattle.gw_ledger.specs.Finding.{InJournal};
+ghost use Rattle.gw_ledger.specs.Putting.{Puts};
+
+use crate::fault::LedgerFault;
+use crate::ledger::Ledger;
+use gw_due::laws::Rules;
+use gw_due::{Entry, Event};
+use gw_journal::{Front, JournalFault, Naming, Storage, Ticket};
+use std::marker::Model;
+
+/// How far the margin of numbers is put ahead.
+const AHEAD: u64 = 10_000;
+
+/// What was seen of the plan in force: its place.
+#[derive(Drop)]
+pub struct Look<J: Naming> {
+    place: u64,
+    front: Front<J>,
+}
+
+impl<J: Naming> Model for Look<J> {
+    ghost use Rattle.gw_ledger.specs.Accepting.{IsLook, LookState};
+
+    ghost Value = { LookState };
+
+    ghost view = { λ l. record { place = l.place; history = l.front } };
+
+    ghost invariant = { λ l. IsLook J.before (record { place = l.place; history = l.front }) };
+}
+
+impl<J: Naming> Look<J> {
+    /// The place of the plan.
+    pub fn place(&self) -> u64
+        ensures { result ≡ self.now.place }
+    {
+        self.place
+    }
+}
+
+impl<J: Naming, S: Storage + Drop, R: Rules> Ledger<J, S, R> {
+    /// The plan in force, where there is one and there was no fault.
+    pub fn look(&self) -> Option<Look<J>>
+        ensures { IfSome result (λ look. (self.now.state.plan ≡ Some look.place)
+            × (look.history ≡ self.now.desk.history)) }
+    {
+        if self.desk.fault().is_some() {
+            return None;
+        }
+        let place = self.state.plan()?;
+        Some(Look {
+            place,
+            front: self.desk.front().again(),
+        })
+    }
+
+    // Whether the plan that was looked up is in force.
+    fn is_in_force(&self, look: &Look<J>) -> bool
+        ensures { IsTrue result ↔ IsInForce self.now look.now }
+    {
+        match self.state.plan() {
+            Some(place) => place == look.place && look.front.begins(self.desk.front()),
+            None => false,
+        }
+    }
+
+    // Puts a margin ahead of the number, where that isn't below the one that there is.
+    fn put_margin(&mut self, time: u64, number: u64) -> Result<(), LedgerFault>
+        requires well { IsNone self.old.desk.fault }
+        ensures plan { OnOk result (self.new.state.plan ≡ self.old.state.plan) }
+        ensures later { OnOk result (IsPrefix self.old.desk.history self.new.desk.history) }
+        ensures well { OnOk result (IsNone self.new.desk.fault) }
+        ensures grown { (self.new ≡ self.old) ⊎ HasGrown self.old.desk self.new.desk }
+        ensures current { IsErrOf result LedgerFault.Stale → ⊥ }
+    {
+        if number < self.state.margin() {
+            return Ok(());
+        }
+        if number > u64::MAX - AHEAD {
+            return Err(LedgerFault::Journal(JournalFault::Full));
+        }
+        match self.margin(time, number + AHEAD) {
+            Ok(_) => Ok(()),
+            Err(fault) => Err(fault),
+        }
+    }
+
+    // Puts an accepted message, of which it was seen how the plan in force routes it.
+    fn put_accepted(
+        &mut self,
+        time: u64,
+        number: u64,
+        look: &Look<J>,
+        to: Vec<u32>,
+        bytes: &[u8],
+    ) -> Result<Ticket<J>, LedgerFault>
+        requires well { IsNone self.old.desk.fault }
+        requires in_force { IsInForce self.old look.now }
+        requires routed { InJournal (IsRouted R.routes look.now.place to.items bytes.now) J.before look.now.history }
+        ensures { Puts J.before self.old self.new
+            (record { time = time; event = events.Accepted number to.items bytes.now }) result }
+    {
+        // (what holds of both is known from here on)
+        let (_place, _alloc) = (look.place, self.alloc);
+        let event = Event::Accepted { number, to, bytes };
+        self.put(&Entry { time, event })
+    }
+
+    /// Accepts a message for these receivers, by the plan that was looked up for it: a number is given to it, above all before.
+    /// `Stale`: that plan isn't in force any more.
+    ///
+    /// Who accepts has seen that by the plan at that place these are the receivers of the message, whatever names are given later.
+    pub fn accept(
+        &mut self,
+        time: u64,
+        look: &Look<J>,
+        to: Vec<u32>,
+        bytes: &[u8],
+    ) -> Result<(u64, Ticket<J>), LedgerFault>
+        requires routed { InJournal (IsRouted R.routes look.now.place to.items bytes.now) J.before look.now.history }
+        ensures put { IfOk result (λ x. IsAt x.1.place (spelling.spelled (record {
+          time = time;
+          event = events.Accepted x.0 to.items bytes.now;
+        })) (log_in J.before x.1.history)) }
+        ensures seen { IfOk result (λ x. x.1.history ≡ self.new.desk.history) }
+        ensures stale { IsNone self.old.desk.fault → (IsInForce self.old look.now → ⊥) →
+            IsErrOf result LedgerFault.Stale }
+        ensures same { IsErrOf result LedgerFault.Stale → self.new ≡ self.old }
+        ensures faulty { IfSome self.old.desk.fault (λ fault. IsErrOf result (LedgerFault.Journal fault)) }
+        ensures err { IfErr result (λ fault. (self.new ≡ self.old) ⊎ HasGrown self.old.desk self.new.desk) }
+    {
+        if let Some(fault) = self.desk.fault() {
+            return Err(LedgerFault::Journal(fault));
+        }
+        if !self.is_in_force(look) {
+            return Err(LedgerFault::Stale);
+        }
+        let number = match self.state.last() {
+            None => 1,
+            Some(u64::MAX) => return Err(LedgerFault::Journal(JournalFault::Full)),
+            Some(last) => last + 1,
+        };
+        if let Err(fault) = self.put_margin(time, number) {
+            return Err(fault);
+        }
+        match self.put_accepted(time, number, look, to, bytes) {
+            Ok(ticket) => Ok((number, ticket)),
+            Err(fault) => Err(fault),
+        }
+    }
+}

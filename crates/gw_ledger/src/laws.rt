@@ -1,0 +1,32 @@
+//! What holds of the definitions.
+ghost use Rattle.std.specs.Prelude.{◌≡◌, ℕ, List};
+ghost use mathlib.Core.List.{IsPrefix};
+ghost use Rattle.gw_due.specs.Events.{Event};
+ghost use Rattle.gw_due.specs.Lawful.{Lawful};
+ghost use Rattle.gw_due.specs.Spelling.{Entry};
+ghost use Rattle.gw_journal.specs.Logs.{AreFaithful};
+ghost use Rattle.gw_journal.specs.declared.event.Event as happened;
+ghost use Rattle.gw_ledger.specs.Ledgers.{IsLawful, Spells, events_of};
+
+use gw_due::laws::Rules;
+
+/// Records spell one list of entries at most.
+pub fn one_reading()
+    ensures { (records : List (List ℕ)) (these those : List Entry) → Spells records these → Spells records those → these ≡ those }
+{}
+
+/// A beginning of a lawful log is lawful.
+pub fn a_beginning_is_lawful<R: Rules>()
+    ensures { (part whole : List Event) → IsPrefix part whole → Lawful R.routes whole → Lawful R.routes part }
+{}
+
+/// What a crash leaves of a journal is a beginning of its records: it spells a beginning of their entries, which is lawful.
+pub fn what_is_left_is_lawful<R: Rules>()
+    ensures { (part whole : List (List ℕ)) (entries : List Entry) → IsPrefix part whole → Spells whole entries →
+        Lawful R.routes (events_of entries) → IsLawful R.routes part }
+{}
+
+/// What was read as it was written was so at each moment before.
+pub fn faithful_before()
+    ensures { (before : List (List ℕ)) (old new : List happened.Event) → IsPrefix old new → AreFaithful before new → AreFaithful before old }
+{}

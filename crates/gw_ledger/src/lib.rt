@@ -1,0 +1,21 @@
+//! What lies under a gateway's lock: a journal of events, and the state of all events that were put.
+//!
+//! Every record that a [`Ledger`] puts spells an event that may follow those before it.
+#![tactic(auto)]
+
+mod accepting;
+mod books;
+mod checkpoints;
+mod events;
+mod fault;
+pub mod laws;
+mod ledger;
+mod messages;
+mod scans;
+
+pub use accepting::Look;
+pub use checkpoints::Checkpoints;
+pub use fault::{LedgerFault, ScanFault};
+pub use ledger::Ledger;
+pub use messages::Message;
+pub use scans::{Found, Scan};

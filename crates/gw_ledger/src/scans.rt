@@ -1,0 +1,204 @@
+//! What a forwarder finds in the files of the log: the next for its receiver.
+ghost use Rattle.std.specs.Prelude.{◌≡◌, ◌+◌, ◌↔◌, ◌⊎◌, ◌++◌, ◌∷◌, [], is_some, IfOk, IfSome, IsErrOf, IsNone, IsSome, IsTrue, OnOk, OnErr, Some};
+ghost use Rattle.gw_due.specs.Due.{is_among};
+ghost use Rattle.gw_due.specs.Events.{Passed};
+ghost use Rattle.gw_due.specs.Spelling as spelling;
+ghost use Rattle.gw_due.specs.Views as view;
+ghost use Rattle.gw_journal.specs.declared.event.Event.TheVariants.{Read};
+ghost use Rattle.gw_ledger.specs.Finding.{IsCurrent, from_of, makes_due};
+ghost use Rattle.gw_ledger.specs.Putting.{Puts};
+
+use crate::fault::{LedgerFault, ScanFault};
+use crate::ledger::Ledger;
+use gw_due::laws::Rules;
+use gw_due::{Entry, Event, How, ReadFault, Receiver, read};
+use gw_journal::{Front, Naming, Storage, Ticket};
+use std::marker::Model;
+
+/// What was looked through for a receiver: from where what is left for it begins, up to another place. Nothing is due to it there.
+#[derive(Drop)]
+pub struct Scan<J: Naming> {
+    receiver: u32,
+    from: u64,
+    at: u64,
+    front: Front<J>,
+}
+
+impl<J: Naming> Model for Scan<J> {
+    ghost use Rattle.gw_ledger.specs.Finding.{IsScan, ScanState};
+
+    ghost Value = { ScanState };
+
+    ghost view = { λ s. record { receiver = s.receiver; from = s.from; at = s.at; history = s.front } };
+
+    ghost invariant = { λ s. IsScan J.before (record { receiver = s.receiver; from = s.from; at = s.at; history = s.front }) };
+}
+
+impl<J: Naming> Scan<J> {
+    /// The place of the record that is to be shown to it next.
+    pub fn at(&self) -> u64
+        ensures { result ≡ self.now.at }
+    {
+        self.at
+    }
+}
+
+/// The next for a receiver, at its place in the log, if what was read of the log is what was written.
+#[derive(Drop)]
+pub struct Found<J: Naming> {
+    receiver: u32,
+    from: u64,
+    place: u64,
+    front: Front<J>,
+}
+
+impl<J: Naming> Model for Found<J> {
+    ghost use Rattle.gw_ledger.specs.Finding.{FoundState, IsFound};
+
+    ghost Value = { FoundState };
+
+    ghost view = { λ f. record { receiver = f.receiver; from = f.from; place = f.place; history = f.front } };
+
+    ghost invariant = { λ f. IsFound J.before (record { receiver = f.receiver; from = f.from; place = f.place; history = f.front }) };
+}
+
+impl<J: Naming> Found<J> {
+    /// The place at which it is due.
+    pub fn place(&self) -> u64
+        ensures { result ≡ self.now.place }
+    {
+        self.place
+    }
+}
+
+fn is_among(number: u32, to: &[u32]) -> bool
+    ensures { result ≡ is_among number to.now }
+{
+    to.contains(&number)
+}
+
+// Whether the event makes something due to the receiver.
+fn makes_due(number: u32, event: &Event<'_>) -> bool
+    ensures { result ≡ makes_due number (view.event event.now) }
+{
+    match event {
+        Event::Accepted { to, .. } => is_among(number, to),
+        Event::Again { receiver, .. } => *receiver == number,
+        _ => false,
+    }
+}
+
+// Where what is left for the receiver of this number begins.
+fn from_of(receivers: &[Receiver], number: u32) -> Option<u64>
+    ensures { result ≡ from_of number receivers.now }
+{
+    for one in receivers {
+        if one.number() == number {
+            return Some(one.from());
+        }
+    }
+    None
+}
+
+impl<J: Naming, S: Storage + Drop, R: Rules> Ledger<J, S, R> {
+    /// Begins to look for the next for the receiver of this number, where it has a name.
+    pub fn scan(&self, receiver: u32) -> Option<Scan<J>>
+        ensures { IfSome result (λ s. (from_of receiver self.now.state.receivers ≡ Some s.from)
+            × (s ≡ record { receiver = receiver; from = s.from; at = s.from; history = self.now.desk.history })) }
+    {
+        let from = from_of(self.state.receivers(), receiver)?;
+        Some(Scan {
+            receiver,
+            from,
+            at: from,
+            front: self.desk.front().again(),
+        })
+    }
+
+    /// Goes over a record that was read from the files, at the place of the scan. It is what the journal has there: that is noted in its history,
+    /// and what is found holds only if it is so.
+    pub fn over(&mut self, scan: &mut Scan<J>, bytes: &[u8]) -> Result<Option<Found<J>>, ScanFault>
+        // Whether the record makes something due to the receiver.
+        ensures due { IfOk result (λ found. (e : spelling.Entry) → spelling.Fits e → bytes.now ≡ spelling.spelled e →
+            is_some found ≡ makes_due scan.old.receiver e.event) }
+        ensures found { IfOk result (λ found. IfSome found (λ f. f ≡ record {
+          receiver = scan.old.receiver;
+          from = scan.old.from;
+          place = scan.old.at;
+          history = self.new.desk.history;
+        })) }
+        ensures on { IfOk result (λ found. IsNone found →
+            scan.new ≡ record scan.old { at = scan.old.at + 1; history = self.new.desk.history }) }
+        ensures noted { OnOk result (self.new ≡ record self.old {
+          desk = record self.old.desk { history = self.old.desk.history ++ Read scan.old.at bytes.now ∷ [] };
+        }) }
+        ensures unreadable { IsErrOf result ScanFault.Unreadable →
+            (e : spelling.Entry) → spelling.Fits e → bytes.now ≡ spelling.spelled e → ⊥ }
+        // An error leaves the scan as it was, and all that was put.
+        ensures state { self.new.state ≡ self.old.state }
+        ensures err { OnErr result (scan.new ≡ scan.old) }
+        ensures failed { OnErr result ((self.new ≡ self.old) ⊎ IsSome self.new.desk.fault) }
+    {
+        let entry = match read(self.alloc, bytes) {
+            Ok(entry) => entry,
+            Err(ReadFault::Memory) => return Err(ScanFault::Memory),
+            Err(ReadFault::Unreadable) => return Err(ScanFault::Unreadable),
+        };
+        if !scan.front.begins(self.desk.front()) {
+            return Err(ScanFault::Stale);
+        }
+        if scan.at == u64::MAX || !self.note_read(scan.at, bytes) {
+            return Err(ScanFault::Full);
+        }
+        let front = self.desk.front().again();
+        if makes_due(scan.receiver, &entry.event) {
+            return Ok(Some(Found {
+                receiver: scan.receiver,
+                from: scan.from,
+                place: scan.at,
+                front,
+            }));
+        }
+        scan.at += 1;
+        scan.front = front;
+        Ok(None)
+    }
+
+    // Whether it was found in this journal, from where what is left for its receiver still begins.
+    fn is_current(&self, found: &Found<J>) -> bool
+        ensures { IsTrue result ↔ IsCurrent self.now found.now }
+    {
+        match from_of(self.state.receivers(), found.receiver) {
+            Some(from) => from == found.from && found.front.begins(self.desk.front()),
+            None => false,
+        }
+    }
+
+    /// The receiver passed what was found for it. `Stale`: it passed that already, or the next was found in another way.
+    pub fn pass(
+        &mut self,
+        time: u64,
+        found: &Found<J>,
+        how: How<'_>,
+    ) -> Result<Ticket<J>, LedgerFault>
+        ensures current { IsCurrent self.old found.now → Puts J.before self.old self.new
+            (record { time = time; event = Passed found.now.receiver found.now.place (view.how how.entry) }) result }
+        ensures stale { IsNone self.old.desk.fault → (IsCurrent self.old found.now → ⊥) →
+            IsErrOf result LedgerFault.Stale }
+        ensures same { IsErrOf result LedgerFault.Stale → self.new ≡ self.old }
+        ensures faulty { IfSome self.old.desk.fault (λ fault. IsErrOf result (LedgerFault.Journal fault)) }
+    {
+        if let Some(fault) = self.desk.fault() {
+            return Err(LedgerFault::Journal(fault));
+        }
+        if !self.is_current(found) {
+            return Err(LedgerFault::Stale);
+        }
+        let event = Event::Passed {
+            receiver: found.receiver,
+            place: found.place,
+            how,
+        };
+        self.put(&Entry { time, event })
+    }
+}
