@@ -78,6 +78,18 @@ impl<J: Naming, S: Storage + Drop> Model for Desk<J, S> {
         × (d.settled ≤ (log_in J.before d.history).synced) };
 }
 
+impl<J: Naming> Ticket<J> {
+    /// The same once more. It takes no memory.
+    pub fn again(&self) -> Ticket<J>
+        ensures { result ≡ self.now }
+    {
+        Ticket {
+            front: self.front.again(),
+            place: self.place,
+        }
+    }
+}
+
 impl<J: Naming> Receipt<J> {
     /// The place of its record in the journal.
     pub fn place(&self) -> u64

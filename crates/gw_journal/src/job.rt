@@ -1,5 +1,5 @@
 //! What a thread takes from under the lock, to bring it to the disk with the lock free.
-ghost use Rattle.std.specs.Prelude.{◌≡◌, ◌++◌, ◌∷◌, [], IfOk, IfErr, IsNone, IsSome, OnOk, Some, ℕ, List};
+ghost use Rattle.std.specs.Prelude.{◌≡◌, ◌++◌, ◌∷◌, [], is_some, IfOk, IfErr, IsNone, IsSome, OnOk, Some, ℕ, List};
 ghost use Rattle.gw_journal.specs.Logs.{AreFit, HasFailed, NoneIsLost, log_in, outcomes, records_of};
 
 use crate::book::{Front, Naming};
@@ -66,6 +66,13 @@ impl<J: Naming, S: Storage + Drop> Model for Done<J, S> {
         (log_in J.before d.front) };
 }
 
+impl<J: Naming, S: Storage + Drop> Done<J, S> {
+    /// The number of the storage's last file, and how many of its bytes count.
+    pub fn tail(&self) -> (u64, usize) {
+        self.storage.tail()
+    }
+}
+
 // Gives a storage a batch. With an empty one it settles.
 fn bring<S: Storage>(storage: &mut S, batch: &[Vec<u8>]) -> Result<(), JournalFault>
     requires { AreFit (records_of batch.now) }
@@ -122,6 +129,13 @@ impl<J: Naming, S: Storage + Drop> Job<J, S> {
     /// How many bytes the last file of the storage has.
     pub fn size(&self) -> usize {
         self.storage.size()
+    }
+
+    /// Whether it begins the next file.
+    pub fn is_turning(&self) -> bool
+        ensures { result ≡ is_some self.now.next }
+    {
+        self.checkpoint.is_some()
     }
 
     /// The same job, which also begins the next file behind its batch, and removes up to four that are needed no more. Its checkpoint tells of all records.

@@ -57,6 +57,9 @@ pub trait Storage {
     /// How many bytes the last file has.
     fn size(&self) -> usize;
 
+    /// The number of the last file, and how many of its bytes count. Those of the files before it all do.
+    fn tail(&self) -> (u64, usize);
+
     /// Where nothing happens a crash leaves what counts.
     ghost at_rest: { (s : Self) (these those : List (List ℕ)) → stands s these those → leaves s s (these ∷ []) };
 

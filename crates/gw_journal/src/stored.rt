@@ -194,6 +194,10 @@ impl<K: Summary, D: Disk> Storage for Stored<K, D> {
         self.log.size()
     }
 
+    fn tail(&self) -> (u64, usize) {
+        (self.log.number(), self.log.settled())
+    }
+
     ghost at_rest = { one_at_rest K.tells D.honest D.seen D.may_leave D.moment D.left_since D.only_now };
 
     ghost goes_on = { one_goes_on K.tells D.honest D.seen D.may_leave D.moment D.left_since };

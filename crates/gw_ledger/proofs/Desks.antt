@@ -11,7 +11,7 @@ use Rattle.gw_journal.specs.declared.event.Event.TheVariants.{Put, Synced, Read}
 use Rattle.gw_journal.specs.Logs.{DeskState, IsAt, IsIdle, JobState, Log, AreFaithful, TicketState, log_in, next}
 use Rattle.gw_journal.proofs.Logging.{log_more}
 use Rattle.gw_ledger.specs.Ledgers.{IsInState, IsSeenIn, LedgerState, Tells}
-use Rattle.gw_ledger.specs.Putting.{IsPut}
+use Rattle.gw_ledger.specs.Putting.{IsPut, margin_at, number_by}
 use Rattle.gw_ledger.proofs.Ledging.{faithful_part, next_is, state_more, state_stays, told}
 
 module _ {S : Type 0} (Routes : (names : List Name) (plan to bytes : List ℕ) → Type 0) (before : List (List ℕ)) where
@@ -76,20 +76,25 @@ not_idle desk r idle some = at (is_some desk.fault) refl where
 -- ---- what is answered
 
 pub is_put : {S : Type 0} (Routes : (names : List Name) (plan to bytes : List ℕ) → Type 0) (before : List (List ℕ)) (old : LedgerState S) (desk : DeskState S) (s : State)
-    (e : Entry) (bytes : List ℕ) (t : TicketState) → Right Routes before old.desk old.state → is_some old.desk.fault ≡ false → bytes ≡ spelled e
+    (number : ℕ) (margin : Option TicketState) (e : Entry) (bytes : List ℕ) (t : TicketState) → Right Routes before old.desk old.state → is_some old.desk.fault ≡ false → bytes ≡ spelled e
     → IsAt t.place bytes (log_in before t.history) → t.history ≡ desk.history → t.place ≡ length (log_in before old.desk.history).records
     → desk ≡ record old.desk { batch = old.desk.batch ++ bytes ∷ []; history = old.desk.history ++ Put bytes ∷ [] }
-    → s ≡ after old.state e.event → Fits e → IsTrue (allows old.state e.event)
-    → IsPut before old (record old { desk = desk; state = s }) e t
-is_put Routes before old desk s e bytes t right well spells there seen place is moved fits allowed =
+    → s ≡ after old.state e.event → number ≡ number_by old.number e.event → margin ≡ margin_at old.margin_at t e.event
+    → Fits e → IsTrue (allows old.state e.event)
+    → IsPut before old (record old { desk = desk; state = s; number = number; margin_at = margin }) e t
+is_put {S = S} Routes before old desk s number margin e bytes t right well spells there seen place is moved counted marked fits allowed =
     let now : desk ≡ record old.desk { batch = old.desk.batch ++ spelled e ∷ []; history = old.desk.history ++ Put (spelled e) ∷ [] } =
     is ∙ ap (λ b. record old.desk { batch = old.desk.batch ++ b ∷ []; history = old.desk.history ++ Put b ∷ [] }) spells in
+    let at : t.place ≡ old.state.next = place ∙ sym (next_is Routes (AreFaithful before old.desk.history) (log_in before old.desk.history).records old.state (right well)) in
+    let all : t.history ≡ old.desk.history ++ Put (spelled e) ∷ [] = seen ∙ ap (λ (d : DeskState S). d.history) now in
+    let mark : margin ≡ margin_at old.margin_at (record { history = old.desk.history ++ Put (spelled e) ∷ []; place = old.state.next }) e.event =
+    marked ∙ ap (λ h. margin_at old.margin_at (record { history = h; place = t.place }) e.event) all
+    ∙ ap (λ p. margin_at old.margin_at (record { history = old.desk.history ++ Put (spelled e) ∷ []; place = p }) e.event) at in
     record {
-      place = place ∙ sym (next_is Routes (AreFaithful before old.desk.history) (log_in before old.desk.history).records old.state (right well));
+      place = at;
       there = subst (λ b. IsAt t.place b (log_in before t.history)) spells there;
       seen = seen;
-      is = ap (λ d. record old { desk = d; state = s }) now
-          ∙ ap (λ x. record old { desk = record old.desk { batch = old.desk.batch ++ spelled e ∷ []; history = old.desk.history ++ Put (spelled e) ∷ [] }; state = x }) moved;
+      is = cc (now, moved, counted, mark);
       allowed = allowed;
       fits = fits;
     }

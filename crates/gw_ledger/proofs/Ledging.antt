@@ -15,7 +15,7 @@ use Rattle.gw_due.proofs.EventForms.{one_record}
 use Rattle.gw_due.proofs.Deciding.{decides}
 use Rattle.gw_journal.specs.declared.event.Event as happened
 use Rattle.gw_journal.specs.declared.event.Event.TheVariants.{Put, Synced, Read}
-use Rattle.gw_journal.specs.Logs.{Log, AreFaithful, AreFaithfulFrom, next, opened}
+use Rattle.gw_journal.specs.Logs.{Log, AreFaithful, AreFaithfulFrom, log_in, next, opened}
 use Rattle.gw_ledger.specs.Ledgers.{IsInState, IsLawful, IsSeenIn, Spells, Tells, events_of}
 
 -- ---- what was read
@@ -142,6 +142,12 @@ module _ (Routes : (names : List Name) (plan to bytes : List ℕ) → Type 0) wh
     is = is.is;
     lawful = λ faithful. is.lawful (less faithful);
   }
+
+  -- nothing happened yet
+  pub state_opened : (before : List (List ℕ)) (history : List happened.Event) (s : State) → history ≡ [] → IsInState Routes ⊤ before s
+      → IsInState Routes (AreFaithful before history) (log_in before history).records s
+  state_opened before history s empty is =
+      state_stays ⊤ (AreFaithful before history) before (log_in before history).records s (λ _. tt) (ap (λ h. (log_in before h).records) empty) is
 
   -- an entry is put
   pub state_more : (old new : Type 0) (records these : List (List ℕ)) (s : State) (e : Entry) → (new → old) → these ≡ records ++ spelled e ∷ []

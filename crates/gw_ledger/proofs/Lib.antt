@@ -1,4 +1,5 @@
 pub mod Ledging
+pub mod Counting
 pub mod Desks
 pub mod Passing
 pub mod Routing

@@ -1,14 +1,14 @@
 -- A journal whose records spell the events of a gateway's log, and the state of these events.
-use Rattle.std.specs.Prelude.{◌≡◌, ℕ, List, map}
+use Rattle.std.specs.Prelude.{◌≡◌, ℕ, List, map, Option}
 use Rattle.std.specs.List.{AllByRecursion}
-use Rattle.gw_due.specs.Events.{Event}
+use Rattle.gw_due.specs.Events.{Event, Margin}
 use Rattle.gw_due.specs.Due.{Name}
 use Rattle.gw_due.specs.Lawful.{Lawful}
 use Rattle.gw_due.specs.Says.{IsSeen}
 use Rattle.gw_due.specs.State.{State, state_of}
 use Rattle.gw_due.specs.Spelling.{Entry, Fits, spelled}
 use Rattle.gw_due.specs.Checkpoint.{checkpoint, StateFits}
-use Rattle.gw_journal.specs.Logs.{DeskState}
+use Rattle.gw_journal.specs.Logs.{DeskState, IsAt, TicketState, log_in}
 
 -- these records spell these entries, each in its one spelling
 pub record Spells (records : List (List ℕ)) (entries : List Entry) : Type 0 where
@@ -46,10 +46,19 @@ pub record IsCheckpoint (s : State) (bytes : List ℕ) : Type 0 where
 abbrev pub Tells : List (List ℕ) → List ℕ → Type 0
 Tells records bytes = (entries : List Entry) → Spells records entries → IsCheckpoint (state_of (events_of entries)) bytes
 
+-- the ticket's record puts this margin
+pub record IsMargin (before : List (List ℕ)) (margin : ℕ) (t : TicketState) : Type 0 where
+  pub time : ℕ
+  pub there : IsAt t.place (spelled (record { time = time; event = Margin margin })) (log_in before t.history)
+
 -- what lies under the lock: the journal's desk; the state of all that was put; the next file is begun where the last one has more
--- bytes than this; files of a number below the oldest are needed no more
+-- bytes than this; files of a number below the oldest are needed no more; the number of the next answer;
+-- the ticket of the margin that was put last, since the log was opened; the last file's number, and how many of its bytes count
 pub record LedgerState (S : Type 0) : Type 0 where
   pub desk : DeskState S
   pub state : State
   pub limit : ℕ
   pub oldest : ℕ
+  pub number : ℕ
+  pub margin_at : Option TicketState
+  pub tail : ℕ × ℕ

@@ -1,5 +1,6 @@
 -- What a ledger answers to who puts an entry, and what it is then.
-use Rattle.std.specs.Prelude.{◌≡◌, ℕ, ◌<◌, ◌^◌, ◌⊎◌, IsTrue, IsFalse, List, [], ◌∷◌, ◌++◌, length, IsNone, IfSome, Result, Err, IfOk, IfErr}
+use Rattle.std.specs.Prelude.{◌≡◌, ℕ, ◌+◌, ◌<◌, ◌^◌, ◌⊎◌, max, IsTrue, IsFalse, List, [], ◌∷◌, ◌++◌, length, Option, Some, IsNone, IfSome, Result, Err, IfOk, IfErr}
+use Rattle.gw_due.specs.Events.{Event, Accepted, Margin}
 use Rattle.gw_due.specs.State.{after, allows, has_room}
 use Rattle.gw_due.specs.Spelling.{Entry, Fits, spelled}
 use Rattle.gw_journal.specs.declared.event.Event.TheVariants.{Put}
@@ -9,11 +10,23 @@ use Rattle.gw_ledger.specs.Ledgers.{LedgerState}
 use Rattle.gw_ledger.specs.declared.fault.LedgerFault.{LedgerFault}
 use Rattle.gw_ledger.specs.declared.fault.LedgerFault.TheVariants.{Journal, Unlawful, Stale}
 
+-- the number of the next answer is above that of a message
+abbrev pub number_by : ℕ → Event → ℕ
+number_by n (Accepted number to bytes) = max n (number + 1)
+number_by n _ = n
+
+-- the ticket of the last margin
+abbrev pub margin_at : Option TicketState → TicketState → Event → Option TicketState
+margin_at last t (Margin number) = Some t
+margin_at last t _ = last
+
 -- the ledger with this entry behind the others
 abbrev pub with_entry : {S : Type 0} → Entry → LedgerState S → LedgerState S
 with_entry e old = record old {
   desk = record old.desk { batch = old.desk.batch ++ spelled e ∷ []; history = old.desk.history ++ Put (spelled e) ∷ [] };
   state = after old.state e.event;
+  number = number_by old.number e.event;
+  margin_at = margin_at old.margin_at (record { history = old.desk.history ++ Put (spelled e) ∷ []; place = old.state.next }) e.event;
 }
 
 -- the ticket's record spells the entry, at the place of the next one, and its event was allowed

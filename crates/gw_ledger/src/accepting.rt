@@ -1,11 +1,12 @@
-//! Messages that are accepted.
-ghost use Rattle.std.specs.Prelude.{◌≡◌, ◌↔◌, ◌⊎◌, IfOk, IfErr, IfSome, IsErrOf, IsNone, IsTrue, OnOk, Some};
+//! Numbers of answers, and messages that are accepted.
+ghost use Rattle.std.specs.Prelude.{◌≡◌, ◌↔◌, ◌⊎◌, ◌+◌, ◌<◌, ◌^◌, IfOk, IfErr, IfSome, IsErrOf, IsNone, IsSome, IsTrue, OnOk, Some};
 ghost use mathlib.Core.List.{IsPrefix};
 ghost use Rattle.gw_due.specs.Events as events;
 ghost use Rattle.gw_due.specs.Spelling as spelling;
 ghost use Rattle.gw_journal.specs.Logs.{HasGrown, IsAt, log_in};
 ghost use Rattle.gw_ledger.specs.Accepting.{IsInForce, IsRouted};
 ghost use Rattle.gw_ledger.specs.Finding.{InJournal};
+ghost use Rattle.gw_ledger.specs.Ledgers.{IsMargin};
 ghost use Rattle.gw_ledger.specs.Putting.{Puts};
 
 use crate::fault::LedgerFault;
@@ -47,8 +48,9 @@ impl<J: Naming> Look<J> {
 impl<J: Naming, S: Storage + Drop, R: Rules> Ledger<J, S, R> {
     /// The plan in force, where there is one and there was no fault.
     pub fn look(&self) -> Option<Look<J>>
-        ensures { IfSome result (λ look. (self.now.state.plan ≡ Some look.place)
+        ensures look { IfSome result (λ look. (self.now.state.plan ≡ Some look.place)
             × (look.history ≡ self.now.desk.history)) }
+        ensures none { IsNone result → IsSome self.now.desk.fault ⊎ IsNone self.now.state.plan }
     {
         if self.desk.fault().is_some() {
             return None;
@@ -76,6 +78,9 @@ impl<J: Naming, S: Storage + Drop, R: Rules> Ledger<J, S, R> {
         ensures plan { OnOk result (self.new.state.plan ≡ self.old.state.plan) }
         ensures later { OnOk result (IsPrefix self.old.desk.history self.new.desk.history) }
         ensures well { OnOk result (IsNone self.new.desk.fault) }
+        ensures number { OnOk result (self.new.number ≡ self.old.number) }
+        ensures below { OnOk result (number < self.new.state.margin) }
+        ensures room { OnOk result (number + 1 < 2 ^ 64) }
         ensures grown { (self.new ≡ self.old) ⊎ HasGrown self.old.desk self.new.desk }
         ensures current { IsErrOf result LedgerFault.Stale → ⊥ }
     {
@@ -129,6 +134,8 @@ impl<J: Naming, S: Storage + Drop, R: Rules> Ledger<J, S, R> {
           event = events.Accepted x.0 to.items bytes.now;
         })) (log_in J.before x.1.history)) }
         ensures seen { IfOk result (λ x. x.1.history ≡ self.new.desk.history) }
+        ensures number { IfOk result (λ x. x.0 ≡ self.old.number) }
+        ensures on { OnOk result (self.new.number ≡ self.old.number + 1) }
         ensures stale { IsNone self.old.desk.fault → (IsInForce self.old look.now → ⊥) →
             IsErrOf result LedgerFault.Stale }
         ensures same { IsErrOf result LedgerFault.Stale → self.new ≡ self.old }
@@ -141,11 +148,7 @@ impl<J: Naming, S: Storage + Drop, R: Rules> Ledger<J, S, R> {
         if !self.is_in_force(look) {
             return Err(LedgerFault::Stale);
         }
-        let number = match self.state.last() {
-            None => 1,
-            Some(u64::MAX) => return Err(LedgerFault::Journal(JournalFault::Full)),
-            Some(last) => last + 1,
-        };
+        let number = self.number;
         if let Err(fault) = self.put_margin(time, number) {
             return Err(fault);
         }
@@ -153,5 +156,43 @@ impl<J: Naming, S: Storage + Drop, R: Rules> Ledger<J, S, R> {
             Ok(ticket) => Ok((number, ticket)),
             Err(fault) => Err(fault),
         }
+    }
+
+    // The ticket of the last margin, where its record isn't known to be on the disk.
+    fn awaited_margin(&self) -> Option<Ticket<J>>
+        ensures some { IfSome result (λ t. self.now.margin_at ≡ Some t) }
+        ensures none { IsNone result → IfSome self.now.margin_at (λ t. t.place < self.now.desk.settled) }
+    {
+        let ticket = self.margin_at.as_ref()?;
+        if self.desk.receipt(ticket).is_some() {
+            return None;
+        }
+        Some(ticket.again())
+    }
+
+    /// A number for an answer that accepts nothing, above all before and below the margin.
+    ///
+    /// The ticket is that of the margin's record. It has to be on the disk before the answer goes out. None: it is, by what is known.
+    pub fn refuse(&mut self, time: u64) -> Result<(u64, Option<Ticket<J>>), LedgerFault>
+        ensures number { IfOk result (λ x. x.0 ≡ self.old.number) }
+        ensures on { OnOk result (self.new.number ≡ self.old.number + 1) }
+        ensures below { IfOk result (λ x. x.0 < self.new.state.margin) }
+        ensures margin { IfOk result (λ x. IfSome x.1 (IsMargin J.before self.new.state.margin)) }
+        ensures none { IfOk result (λ x. IsNone x.1 →
+            IfSome self.new.margin_at (λ t. t.place < self.new.desk.settled)) }
+        ensures later { OnOk result (IsPrefix self.old.desk.history self.new.desk.history) }
+        ensures faulty { IfSome self.old.desk.fault (λ fault. IsErrOf result (LedgerFault.Journal fault)) }
+        ensures err { IfErr result (λ fault. (self.new ≡ self.old) ⊎ HasGrown self.old.desk self.new.desk) }
+    {
+        if let Some(fault) = self.desk.fault() {
+            return Err(LedgerFault::Journal(fault));
+        }
+        let number = self.number;
+        if let Err(fault) = self.put_margin(time, number) {
+            return Err(fault);
+        }
+        let ticket = self.awaited_margin();
+        self.number = number + 1;
+        Ok((number, ticket))
     }
 }

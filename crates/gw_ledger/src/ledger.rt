@@ -1,5 +1,5 @@
 //! What lies under a gateway's lock.
-ghost use Rattle.std.specs.Prelude.{◌≡◌, ◌^◌, ◌<◌, ◌≤◌, ◌⊎◌, ◌↔◌, ◌++◌, ◌∷◌, [], ⊤, ℕ, List, IfOk, IfErr, IfSome, IsErrOf, IsNone, IsSome, IsTrue, IsFalse, OnOk, Some};
+ghost use Rattle.std.specs.Prelude.{◌≡◌, ◌^◌, ◌<◌, ◌≤◌, ◌⊎◌, ◌↔◌, ◌++◌, ◌∷◌, [], ⊤, ℕ, max, List, IfOk, IfErr, IfSome, IsErrOf, IsNone, IsSome, IsTrue, IsFalse, OnOk, Some};
 ghost use mathlib.Core.List.{IsPrefix};
 ghost use Rattle.gw_due.specs.Spelling as spelling;
 ghost use Rattle.gw_due.specs.State as spec;
@@ -7,7 +7,7 @@ ghost use Rattle.gw_due.specs.Views as view;
 ghost use Rattle.gw_journal.specs.declared.event.Event.TheVariants.{Read, Synced};
 ghost use Rattle.gw_journal.specs.Logs.{AreFaithful, Confirms, HasGrown, IsIdle, IsSpent, log_in};
 ghost use Rattle.gw_ledger.specs.Ledgers.{IsInState, IsSeenIn, Tells};
-ghost use Rattle.gw_ledger.specs.Putting.{IsCause, IsPut, Puts};
+ghost use Rattle.gw_ledger.specs.Putting.{IsCause, IsPut, Puts, margin_at, number_by};
 ghost use Rattle.gw_ledger.specs.own.Steps.{IsAhead};
 
 use crate::fault::LedgerFault;
@@ -25,21 +25,33 @@ pub struct Ledger<J: Naming, S: Storage + Drop, R: Rules> {
     pub(crate) state: State,
     limit: usize,
     oldest: u64,
+    pub(crate) number: u64,
+    pub(crate) margin_at: Option<Ticket<J>>,
+    tail: (u64, usize),
     rules: PhantomData<R>,
 }
 
 impl<J: Naming, S: Storage + Drop, R: Rules> Model for Ledger<J, S, R> {
-    ghost use Rattle.std.specs.Prelude.{◌≡◌, ℕ, List, false, is_some};
+    ghost use Rattle.std.specs.Prelude.{◌≡◌, ◌<◌, ℕ, List, IfSome, false, is_some};
     ghost use Rattle.gw_journal.specs.Logs.{AreFaithful, log_in};
-    ghost use Rattle.gw_ledger.specs.Ledgers.{IsInState, LedgerState, Tells};
+    ghost use Rattle.gw_ledger.specs.Ledgers.{IsInState, IsMargin, LedgerState, Tells};
 
     ghost Value = { LedgerState S };
 
-    ghost view = { λ l. record { desk = l.desk; state = l.state; limit = l.limit; oldest = l.oldest } };
+    ghost view = { λ l. record {
+      desk = l.desk;
+      state = l.state;
+      limit = l.limit;
+      oldest = l.oldest;
+      number = l.number;
+      margin_at = l.margin_at;
+      tail = l.tail;
+    } };
 
     ghost invariant = { λ l. (is_some l.desk.fault ≡ false →
         IsInState R.routes (AreFaithful J.before l.desk.history) (log_in J.before l.desk.history).records l.state)
-        × ((records : List (List ℕ)) (bytes : List ℕ) → Tells records bytes → S.tells records bytes) };
+        × ((records : List (List ℕ)) (bytes : List ℕ) → Tells records bytes → S.tells records bytes)
+        × (IfSome l.state.last (λ n. n < l.number)) × (IfSome l.margin_at (IsMargin J.before l.state.margin)) };
 }
 
 // The record that spells an entry.
@@ -96,6 +108,29 @@ fn move_on(alloc: Global, state: &mut State, ahead: Option<State>, event: &Event
     }
 }
 
+// The number of the next answer, after an event.
+fn next_number(number: u64, state: &State, event: &Event<'_>) -> u64
+    requires allowed { IsTrue (spec.allows state.now (view.event event.now)) }
+    ensures { result ≡ number_by number (view.event event.now) }
+{
+    if let Event::Accepted { number: given, .. } = event {
+        if *given >= state.margin() {
+            unreachable!();
+        }
+        return number.max(*given + 1);
+    }
+    number
+}
+
+// Keeps the ticket of a margin.
+fn note_margin<J: Naming>(last: &mut Option<Ticket<J>>, ticket: &Ticket<J>, event: &Event<'_>)
+    ensures { last.new ≡ margin_at last.old ticket.now (view.event event.now) }
+{
+    if let Event::Margin { .. } = event {
+        *last = Some(ticket.again());
+    }
+}
+
 impl<J: Naming, S: Storage + Drop, R: Rules> Ledger<J, S, R> {
     /// The ledger of a log that has these records, which spell lawful events, and none pending. This is their state.
     ///
@@ -109,16 +144,22 @@ impl<J: Naming, S: Storage + Drop, R: Rules> Ledger<J, S, R> {
         ensures state { result.state ≡ state }
         ensures limit { result.limit ≡ limit }
         ensures oldest { result.oldest ≡ 0 }
+        // All numbers below the margin may have been given.
+        ensures number { result.number ≡ max 1 state.margin }
+        ensures margin_at { IsNone result.margin_at }
         ensures full { (result.desk.fault ≡ Some JournalFault.Full) ↔ 2 ^ 62 < state.next }
         ensures well { IsNone result.desk.fault ↔ state.next ≤ 2 ^ 62 }
     {
-        let count = state.next();
+        let (count, margin, tail) = (state.next(), state.margin(), storage.tail());
         Ledger {
             alloc,
             desk: Desk::open(alloc, opened, storage, count),
             state,
             limit,
             oldest: 0,
+            number: margin.max(1),
+            margin_at: None,
+            tail,
             rules: PhantomData,
         }
     }
@@ -133,6 +174,8 @@ impl<J: Naming, S: Storage + Drop, R: Rules> Ledger<J, S, R> {
         ensures state { result.state ≡ spec.nothing }
         ensures limit { result.limit ≡ limit }
         ensures oldest { result.oldest ≡ 0 }
+        ensures number { result.number ≡ 1 }
+        ensures margin_at { IsNone result.margin_at }
         ensures well { IsNone result.desk.fault }
     {
         Ledger::open(alloc, opened, storage, State::new(alloc), limit)
@@ -143,6 +186,13 @@ impl<J: Naming, S: Storage + Drop, R: Rules> Ledger<J, S, R> {
         ensures { result.now ≡ self.now.state }
     {
         &self.state
+    }
+
+    /// The number of the storage's last file, and how many of its bytes count, as it was when the storage came back last.
+    pub fn tail(&self) -> (u64, usize)
+        ensures { result ≡ self.now.tail }
+    {
+        self.tail
     }
 
     /// Files of a number below this one are needed no more.
@@ -165,8 +215,11 @@ impl<J: Naming, S: Storage + Drop, R: Rules> Ledger<J, S, R> {
     {
         let ahead = ahead(self.alloc, &self.state, &entry.event)?;
         let bytes = spelled(self.alloc, entry)?;
+        let number = next_number(self.number, &self.state, &entry.event);
         let ticket = self.desk.put(bytes)?;
         move_on(self.alloc, &mut self.state, ahead, &entry.event);
+        note_margin(&mut self.margin_at, &ticket, &entry.event);
+        self.number = number;
         Ok(ticket)
     }
 
@@ -243,7 +296,8 @@ impl<J: Naming, S: Storage + Drop, R: Rules> Ledger<J, S, R> {
 
     /// The storage comes back.
     pub fn give_back(&mut self, done: Done<J, S>)
-        ensures same { self.new ≡ record self.old { desk = self.new.desk } }
+        ensures same { self.new ≡ record self.old { desk = self.new.desk; tail = self.new.tail } }
+        ensures tail { IsSome self.new.desk.fault → self.new.tail ≡ self.old.tail }
         ensures later { IsPrefix self.old.desk.history self.new.desk.history }
         ensures back { IsNone self.new.desk.fault → self.new.desk ≡ record self.old.desk {
           storage = Some done.storage;
@@ -252,7 +306,11 @@ impl<J: Naming, S: Storage + Drop, R: Rules> Ledger<J, S, R> {
         } }
         ensures faulty { IsSome self.old.desk.fault → self.new.desk.fault ≡ self.old.desk.fault }
     {
+        let tail = done.tail();
         self.desk.give_back(done);
+        if self.desk.fault().is_none() {
+            self.tail = tail;
+        }
     }
 
     /// The storage didn't come back: this is why. Only the first fault is kept.

@@ -103,7 +103,8 @@ fn from_of(receivers: &[Receiver], number: u32) -> Option<u64>
 impl<J: Naming, S: Storage + Drop, R: Rules> Ledger<J, S, R> {
     /// Begins to look for the next for the receiver of this number, where it has a name.
     pub fn scan(&self, receiver: u32) -> Option<Scan<J>>
-        ensures { IfSome result (λ s. (from_of receiver self.now.state.receivers ≡ Some s.from)
+        ensures none { IsNone result → IsNone (from_of receiver self.now.state.receivers) }
+        ensures scan { IfSome result (λ s. (from_of receiver self.now.state.receivers ≡ Some s.from)
             × (s ≡ record { receiver = receiver; from = s.from; at = s.from; history = self.now.desk.history })) }
     {
         let from = from_of(self.state.receivers(), receiver)?;

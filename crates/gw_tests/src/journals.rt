@@ -69,6 +69,10 @@ impl Storage for Rows {
         self.rows.len()
     }
 
+    fn tail(&self) -> (u64, usize) {
+        (self.files, self.settled)
+    }
+
     ghost at_rest = { λ s these those stand. tt };
 
     ghost goes_on = { λ old mid new left first second. tt };

@@ -49,6 +49,10 @@ impl Storage for Rows {
         self.count
     }
 
+    fn tail(&self) -> (u64, usize) {
+        (1, self.count)
+    }
+
     ghost at_rest = { λ s these those stands. tt };
 
     ghost goes_on = { λ old mid new left one other. tt };
@@ -95,6 +99,14 @@ fn is_kept<J: Naming>(
     Ok(refused && !early && ledger.receipt(&ticket).is_some() && ledger.state().next() == 3)
 }
 
+// Of two answers that accept nothing the second one waits for the record of a margin.
+fn are_numbered<J: Naming>(ledger: &mut Ledger<J, Rows, Anyone>) -> Result<bool, LedgerFault> {
+    let (one, none) = ledger.refuse(5)?;
+    ledger.margin(6, 20)?;
+    let (other, awaited) = ledger.refuse(7)?;
+    Ok(one == 1 && none.is_none() && other == 2 && awaited.is_some())
+}
+
 fn put_and_kept<J: Naming, A: Abort>(rt: &A, alloc: Global, opened: Opened) -> Result<(), Fail>
     requires book { opened.seen.book ≡ J.book }
     requires before { J.before ≡ [] }
@@ -105,6 +117,7 @@ fn put_and_kept<J: Naming, A: Abort>(rt: &A, alloc: Global, opened: Opened) -> R
     };
     let mut ledger = Ledger::<J, Rows, Anyone>::begin(alloc, opened, rows, 0);
     assert!(rt; is_kept(alloc, &mut ledger)?);
+    assert!(rt; are_numbered(&mut ledger)?);
     Ok(())
 }
 
