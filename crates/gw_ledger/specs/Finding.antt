@@ -1,14 +1,23 @@
 -- What a forwarder finds in the files of the log, and how it is known to be the next for its receiver.
-use Rattle.std.specs.Prelude.{◌≡◌, ◌⊎◌, ◌≤◌, ℕ, Bool, true, false, nat_eq, if◌then◌else◌, List, [], ◌∷◌, take, drop, length, slice_get, Option, Some, None}
+use Rattle.std.specs.Prelude.{◌≡◌, ◌⊎◌, ◌≤◌, ◌++◌, ℕ, Bool, true, false, nat_eq, if◌then◌else◌, List, [], ◌∷◌, take, drop, length, slice_get, Option, Some, None}
 use mathlib.Core.List.{IsPrefix}
-use Rattle.gw_due.specs.Events.{Event, Accepted, Again}
+use Rattle.gw_due.specs.Events.{How, Event, Accepted, Again, Passed}
 use Rattle.gw_due.specs.Due.{due_from, is_among}
 use Rattle.gw_due.specs.Lawful.{IsAccepted}
 use Rattle.gw_due.specs.State.{Receiver}
-use Rattle.gw_due.specs.Spelling.{Entry}
+use Rattle.gw_due.specs.Spelling.{Entry, Fits, spelled}
 use Rattle.gw_journal.specs.declared.event.Event as happened
+use Rattle.gw_journal.specs.declared.event.Event.TheVariants.{Read}
 use Rattle.gw_journal.specs.Logs.{AreFaithful, log_in}
 use Rattle.gw_ledger.specs.Ledgers.{LedgerState, Spells, events_of}
+
+-- it holds of the entry that these bytes spell, if they spell one
+abbrev pub OfSpelled : List ℕ → (Entry → Type 0) → Type 0
+OfSpelled bytes P = (e : Entry) → Fits e → bytes ≡ spelled e → P e
+
+-- these bytes were read from the files, as the record at this place
+abbrev pub with_read : {S : Type 0} → ℕ → List ℕ → LedgerState S → LedgerState S
+with_read place bytes old = record old { desk = record old.desk { history = old.desk.history ++ Read place bytes ∷ [] } }
 
 -- whether the event makes something due to the receiver
 abbrev pub makes_due : ℕ → Event → Bool
@@ -56,6 +65,20 @@ abbrev pub from_of : ℕ → List Receiver → Option ℕ
 from_of n [] = None
 from_of n (r ∷ rs) = if nat_eq r.number n then Some r.from else from_of n rs
 
+-- the scan of this journal begins where what is left for the receiver does
+abbrev pub IsBegun : {S : Type 0} → LedgerState S → ℕ → ScanState → Type 0
+IsBegun ledger receiver s =
+    (from_of receiver ledger.state.receivers ≡ Some s.from)
+    × (s ≡ record { receiver = receiver; from = s.from; at = s.from; history = ledger.desk.history })
+
+-- the receiver passed what was found for it
+abbrev pub was_passed : FoundState → How → Event
+was_passed found how = Passed found.receiver found.place how
+
+-- what a scan found where it stands, in this journal
+abbrev pub found_at : {S : Type 0} → ScanState → LedgerState S → FoundState
+found_at s ledger = record { receiver = s.receiver; from = s.from; place = s.at; history = ledger.desk.history }
+
 -- it was found in this journal, from where what is left for its receiver still begins
 pub record IsCurrent {S : Type 0} (ledger : LedgerState S) (found : FoundState) : Type 0 where
   pub from : from_of found.receiver ledger.state.receivers ≡ Some found.from
@@ -73,3 +96,7 @@ pub record MessageState : Type 0 where
 
 abbrev pub IsMessage : List (List ℕ) → MessageState → Type 0
 IsMessage before message = InJournal (IsAccepted message.place) before message.history
+
+-- the message was seen in this journal
+abbrev pub IsSeenBy : {S : Type 0} → LedgerState S → MessageState → Type 0
+IsSeenBy ledger message = IsPrefix message.history ledger.desk.history

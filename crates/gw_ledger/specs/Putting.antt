@@ -3,12 +3,16 @@ use Rattle.std.specs.Prelude.{◌≡◌, ℕ, ◌+◌, ◌<◌, ◌^◌, ◌⊎�
 use Rattle.gw_due.specs.Events.{Event, Accepted, Margin}
 use Rattle.gw_due.specs.State.{after, allows, has_room}
 use Rattle.gw_due.specs.Spelling.{Entry, Fits, spelled}
-use Rattle.gw_journal.specs.declared.event.Event.TheVariants.{Put}
+use Rattle.gw_journal.specs.declared.event.Event.TheVariants.{Put, Synced}
 use Rattle.gw_journal.specs.declared.fault.JournalFault.TheVariants.{Memory, Disk, Full, Empty, TooLong}
-use Rattle.gw_journal.specs.Logs.{HasGrown, IsAt, IsFull, TicketState, log_in}
+use Rattle.gw_journal.specs.Logs.{DeskState, DoneState, HasGrown, IsAt, IsFull, TicketState, log_in}
 use Rattle.gw_ledger.specs.Ledgers.{LedgerState}
 use Rattle.gw_ledger.specs.declared.fault.LedgerFault.{LedgerFault}
 use Rattle.gw_ledger.specs.declared.fault.LedgerFault.TheVariants.{Journal, Unlawful, Stale}
+
+-- an event, at a time
+abbrev pub timed : ℕ → Event → Entry
+timed time e = record { time = time; event = e }
 
 -- the number of the next answer is above that of a message
 abbrev pub number_by : ℕ → Event → ℕ
@@ -37,6 +41,10 @@ pub record IsPut {S : Type 0} (before : List (List ℕ)) (old new : LedgerState 
   pub is : new ≡ with_entry e old
   pub allowed : IsTrue (allows old.state e.event)
   pub fits : Fits e
+
+-- the desk with the storage that came back
+abbrev pub with_storage : {S : Type 0} → DeskState S → DoneState S → DeskState S
+with_storage desk done = record desk { storage = Some done.storage; settled = done.settled; history = desk.history ++ Synced done.settled ∷ [] }
 
 -- a part of the entry has no length in four bytes, or its record has more than 2,147,483,648 bytes
 abbrev pub IsTooLong : Entry → Type 0

@@ -7,7 +7,7 @@ ghost use Rattle.gw_journal.specs.Logs.{HasGrown, IsAt, log_in};
 ghost use Rattle.gw_ledger.specs.Accepting.{IsInForce, IsRouted};
 ghost use Rattle.gw_ledger.specs.Finding.{InJournal};
 ghost use Rattle.gw_ledger.specs.Ledgers.{IsMargin};
-ghost use Rattle.gw_ledger.specs.Putting.{Puts};
+ghost use Rattle.gw_ledger.specs.Putting.{Puts, timed};
 
 use crate::fault::LedgerFault;
 use crate::ledger::Ledger;
@@ -109,7 +109,7 @@ impl<J: Naming, S: Storage + Drop, R: Rules> Ledger<J, S, R> {
         requires in_force { IsInForce self.old look.now }
         requires routed { InJournal (IsRouted R.routes look.now.place to.items bytes.now) J.before look.now.history }
         ensures { Puts J.before self.old self.new
-            (record { time = time; event = events.Accepted number to.items bytes.now }) result }
+            (timed time (events.Accepted number to.items bytes.now)) result }
     {
         // (what holds of both is known from here on)
         let (_place, _alloc) = (look.place, self.alloc);
@@ -129,10 +129,8 @@ impl<J: Naming, S: Storage + Drop, R: Rules> Ledger<J, S, R> {
         bytes: &[u8],
     ) -> Result<(u64, Ticket<J>), LedgerFault>
         requires routed { InJournal (IsRouted R.routes look.now.place to.items bytes.now) J.before look.now.history }
-        ensures put { IfOk result (λ x. IsAt x.1.place (spelling.spelled (record {
-          time = time;
-          event = events.Accepted x.0 to.items bytes.now;
-        })) (log_in J.before x.1.history)) }
+        ensures put { IfOk result (λ x. IsAt x.1.place
+            (spelling.spelled (timed time (events.Accepted x.0 to.items bytes.now))) (log_in J.before x.1.history)) }
         ensures seen { IfOk result (λ x. x.1.history ≡ self.new.desk.history) }
         ensures number { IfOk result (λ x. x.0 ≡ self.old.number) }
         ensures on { OnOk result (self.new.number ≡ self.old.number + 1) }

@@ -1,6 +1,6 @@
 //! Events of which a state can say all.
 ghost use Rattle.gw_due.specs.Events.{Planned, Named, Margin, Retired};
-ghost use Rattle.gw_ledger.specs.Putting.{Puts};
+ghost use Rattle.gw_ledger.specs.Putting.{Puts, timed};
 
 use crate::fault::LedgerFault;
 use crate::ledger::Ledger;
@@ -11,7 +11,7 @@ use gw_journal::{Naming, Storage, Ticket};
 impl<J: Naming, S: Storage + Drop, R: Rules> Ledger<J, S, R> {
     /// The plan of this text is in force from here on.
     pub fn plan(&mut self, time: u64, text: &[u8]) -> Result<Ticket<J>, LedgerFault>
-        ensures { Puts J.before self.old self.new (record { time = time; event = Planned text.now }) result }
+        ensures { Puts J.before self.old self.new (timed time (Planned text.now)) result }
     {
         let event = Event::Planned { text };
         self.put(&Entry { time, event })
@@ -26,7 +26,7 @@ impl<J: Naming, S: Storage + Drop, R: Rules> Ledger<J, S, R> {
         address: &[u8],
     ) -> Result<Ticket<J>, LedgerFault>
         ensures { Puts J.before self.old self.new
-            (record { time = time; event = Named receiver name.now address.now }) result }
+            (timed time (Named receiver name.now address.now)) result }
     {
         let event = Event::Named {
             receiver,
@@ -38,7 +38,7 @@ impl<J: Naming, S: Storage + Drop, R: Rules> Ledger<J, S, R> {
 
     /// Numbers below this one may have been given to answers.
     pub fn margin(&mut self, time: u64, number: u64) -> Result<Ticket<J>, LedgerFault>
-        ensures { Puts J.before self.old self.new (record { time = time; event = Margin number }) result }
+        ensures { Puts J.before self.old self.new (timed time (Margin number)) result }
     {
         let event = Event::Margin { number };
         self.put(&Entry { time, event })
@@ -46,7 +46,7 @@ impl<J: Naming, S: Storage + Drop, R: Rules> Ledger<J, S, R> {
 
     /// Segments below this one may be gone.
     pub fn retire(&mut self, time: u64, segment: u64) -> Result<Ticket<J>, LedgerFault>
-        ensures { Puts J.before self.old self.new (record { time = time; event = Retired segment }) result }
+        ensures { Puts J.before self.old self.new (timed time (Retired segment)) result }
     {
         let event = Event::Retired { segment };
         self.put(&Entry { time, event })

@@ -22,8 +22,8 @@ pub fn a_beginning_is_lawful<R: Rules>()
 
 /// What a crash leaves of a journal is a beginning of its records: it spells a beginning of their entries, which is lawful.
 pub fn what_is_left_is_lawful<R: Rules>()
-    ensures { (part whole : List (List ℕ)) (entries : List Entry) → IsPrefix part whole → Spells whole entries →
-        Lawful R.routes (events_of entries) → IsLawful R.routes part }
+    ensures { (part whole : List (List ℕ)) (all : List Entry) → IsPrefix part whole → Spells whole all →
+        Lawful R.routes (events_of all) → IsLawful R.routes part }
 {}
 
 /// What was read as it was written was so at each moment before.

@@ -1,13 +1,13 @@
 //! What lies under a gateway's lock.
-ghost use Rattle.std.specs.Prelude.{◌≡◌, ◌^◌, ◌<◌, ◌≤◌, ◌⊎◌, ◌↔◌, ◌++◌, ◌∷◌, [], ⊤, ℕ, max, List, IfOk, IfErr, IfSome, IsErrOf, IsNone, IsSome, IsTrue, IsFalse, OnOk, Some};
+ghost use Rattle.std.specs.Prelude.{◌≡◌, ◌^◌, ◌<◌, ◌≤◌, ◌⊎◌, ◌↔◌, [], ⊤, ℕ, max, List, IfOk, IfErr, IfSome, IsErrOf, IsNone, IsSome, IsTrue, IsFalse, OnOk, Some};
 ghost use mathlib.Core.List.{IsPrefix};
 ghost use Rattle.gw_due.specs.Spelling as spelling;
 ghost use Rattle.gw_due.specs.State as spec;
 ghost use Rattle.gw_due.specs.Views as view;
-ghost use Rattle.gw_journal.specs.declared.event.Event.TheVariants.{Read, Synced};
 ghost use Rattle.gw_journal.specs.Logs.{AreFaithful, Confirms, HasGrown, IsIdle, IsSpent, log_in};
+ghost use Rattle.gw_ledger.specs.Finding.{with_read};
 ghost use Rattle.gw_ledger.specs.Ledgers.{IsInState, IsSeenIn, Tells};
-ghost use Rattle.gw_ledger.specs.Putting.{IsCause, IsPut, Puts, margin_at, number_by};
+ghost use Rattle.gw_ledger.specs.Putting.{IsCause, IsPut, Puts, margin_at, number_by, with_storage};
 ghost use Rattle.gw_ledger.specs.own.Steps.{IsAhead};
 
 use crate::fault::LedgerFault;
@@ -246,9 +246,7 @@ impl<J: Naming, S: Storage + Drop, R: Rules> Ledger<J, S, R> {
     /// Notes that these bytes were read from the files, as the record at this place. It takes no memory.
     /// False: it isn't noted, since there are 2^62 events.
     pub fn note_read(&mut self, place: u64, bytes: &[u8]) -> bool
-        ensures noted { IsTrue result → self.new ≡ record self.old {
-          desk = record self.old.desk { history = self.old.desk.history ++ Read place bytes.now ∷ [] };
-        } }
+        ensures noted { IsTrue result → self.new ≡ with_read place bytes.now self.old }
         ensures state { self.new.state ≡ self.old.state }
         ensures later { IsPrefix self.old.desk.history self.new.desk.history }
         ensures full { IsFalse result → IsSpent self.old.desk ⊎ HasGrown self.old.desk self.new.desk }
@@ -299,11 +297,7 @@ impl<J: Naming, S: Storage + Drop, R: Rules> Ledger<J, S, R> {
         ensures same { self.new ≡ record self.old { desk = self.new.desk; tail = self.new.tail } }
         ensures tail { IsSome self.new.desk.fault → self.new.tail ≡ self.old.tail }
         ensures later { IsPrefix self.old.desk.history self.new.desk.history }
-        ensures back { IsNone self.new.desk.fault → self.new.desk ≡ record self.old.desk {
-          storage = Some done.storage;
-          settled = done.settled;
-          history = self.old.desk.history ++ Synced done.settled ∷ [];
-        } }
+        ensures back { IsNone self.new.desk.fault → self.new.desk ≡ with_storage self.old.desk done }
         ensures faulty { IsSome self.old.desk.fault → self.new.desk.fault ≡ self.old.desk.fault }
     {
         let tail = done.tail();

@@ -1,12 +1,9 @@
 //! Messages that are due once more.
-ghost use Rattle.std.specs.Prelude.{◌≡◌, ◌↔◌, ◌⊎◌, ◌++◌, ◌∷◌, [], is_some, IfOk, IfSome, IsErrOf, IsNone, IsSome, IsTrue, OnOk, OnErr};
-ghost use mathlib.Core.List.{IsPrefix};
+ghost use Rattle.std.specs.Prelude.{◌≡◌, ◌↔◌, ◌⊎◌, is_some, IfOk, IfSome, IsErrOf, IsNone, IsSome, IsTrue, OnOk, OnErr};
 ghost use Rattle.gw_due.specs.Events as events;
-ghost use Rattle.gw_due.specs.Spelling as spelling;
 ghost use Rattle.gw_due.specs.Views as view;
-ghost use Rattle.gw_journal.specs.declared.event.Event.TheVariants.{Read};
-ghost use Rattle.gw_ledger.specs.Finding.{is_acceptance};
-ghost use Rattle.gw_ledger.specs.Putting.{Puts};
+ghost use Rattle.gw_ledger.specs.Finding.{IsSeenBy, OfSpelled, is_acceptance, with_read};
+ghost use Rattle.gw_ledger.specs.Putting.{Puts, timed};
 
 use crate::fault::{LedgerFault, ScanFault};
 use crate::ledger::Ledger;
@@ -45,14 +42,12 @@ impl<J: Naming, S: Storage + Drop, R: Rules> Ledger<J, S, R> {
     /// The message of the record that was read from the files, at this place. It is what the journal has there: that is noted in its history.
     pub fn message(&mut self, place: u64, bytes: &[u8]) -> Result<Option<Message<J>>, ScanFault>
         // Whether the record is an acceptance.
-        ensures accepted { IfOk result (λ found. (e : spelling.Entry) → spelling.Fits e → bytes.now ≡ spelling.spelled e →
-            is_some found ≡ is_acceptance e.event) }
+        ensures accepted { IfOk result (λ found. OfSpelled bytes.now (λ e.
+            is_some found ≡ is_acceptance e.event)) }
         ensures found { IfOk result (λ found. IfSome found (λ m. m ≡ record { place = place; history = self.new.desk.history })) }
-        ensures noted { OnOk result (self.new ≡ record self.old {
-          desk = record self.old.desk { history = self.old.desk.history ++ Read place bytes.now ∷ [] };
-        }) }
+        ensures noted { OnOk result (self.new ≡ with_read place bytes.now self.old) }
         ensures unreadable { IsErrOf result ScanFault.Unreadable →
-            (e : spelling.Entry) → spelling.Fits e → bytes.now ≡ spelling.spelled e → ⊥ }
+            OfSpelled bytes.now (λ e. ⊥) }
         // An error leaves all that was put.
         ensures state { self.new.state ≡ self.old.state }
         ensures failed { OnErr result ((self.new ≡ self.old) ⊎ IsSome self.new.desk.fault) }
@@ -76,7 +71,7 @@ impl<J: Naming, S: Storage + Drop, R: Rules> Ledger<J, S, R> {
 
     // Whether it was seen in this journal.
     fn has_seen(&self, message: &Message<J>) -> bool
-        ensures { IsTrue result ↔ IsPrefix message.now.history self.now.desk.history }
+        ensures { IsTrue result ↔ IsSeenBy self.now message.now }
     {
         message.front.begins(self.desk.front())
     }
@@ -88,9 +83,9 @@ impl<J: Naming, S: Storage + Drop, R: Rules> Ledger<J, S, R> {
         receiver: u32,
         message: &Message<J>,
     ) -> Result<Ticket<J>, LedgerFault>
-        ensures current { IsPrefix message.now.history self.old.desk.history → Puts J.before self.old self.new
-            (record { time = time; event = events.Again receiver message.now.place }) result }
-        ensures stale { IsNone self.old.desk.fault → (IsPrefix message.now.history self.old.desk.history → ⊥) →
+        ensures current { IsSeenBy self.old message.now → Puts J.before self.old self.new
+            (timed time (events.Again receiver message.now.place)) result }
+        ensures stale { IsNone self.old.desk.fault → (IsSeenBy self.old message.now → ⊥) →
             IsErrOf result LedgerFault.Stale }
         ensures same { IsErrOf result LedgerFault.Stale → self.new ≡ self.old }
         ensures faulty { IfSome self.old.desk.fault (λ fault. IsErrOf result (LedgerFault.Journal fault)) }

@@ -1,12 +1,9 @@
 //! What a forwarder finds in the files of the log: the next for its receiver.
-ghost use Rattle.std.specs.Prelude.{◌≡◌, ◌+◌, ◌↔◌, ◌⊎◌, ◌++◌, ◌∷◌, [], is_some, IfOk, IfSome, IsErrOf, IsNone, IsSome, IsTrue, OnOk, OnErr, Some};
+ghost use Rattle.std.specs.Prelude.{◌≡◌, ◌+◌, ◌↔◌, ◌⊎◌, is_some, IfOk, IfSome, IsErrOf, IsNone, IsSome, IsTrue, OnOk, OnErr};
 ghost use Rattle.gw_due.specs.Due.{is_among};
-ghost use Rattle.gw_due.specs.Events.{Passed};
-ghost use Rattle.gw_due.specs.Spelling as spelling;
 ghost use Rattle.gw_due.specs.Views as view;
-ghost use Rattle.gw_journal.specs.declared.event.Event.TheVariants.{Read};
-ghost use Rattle.gw_ledger.specs.Finding.{IsCurrent, from_of, makes_due};
-ghost use Rattle.gw_ledger.specs.Putting.{Puts};
+ghost use Rattle.gw_ledger.specs.Finding.{IsBegun, IsCurrent, OfSpelled, found_at, from_of, makes_due, was_passed, with_read};
+ghost use Rattle.gw_ledger.specs.Putting.{Puts, timed};
 
 use crate::fault::{LedgerFault, ScanFault};
 use crate::ledger::Ledger;
@@ -104,8 +101,7 @@ impl<J: Naming, S: Storage + Drop, R: Rules> Ledger<J, S, R> {
     /// Begins to look for the next for the receiver of this number, where it has a name.
     pub fn scan(&self, receiver: u32) -> Option<Scan<J>>
         ensures none { IsNone result → IsNone (from_of receiver self.now.state.receivers) }
-        ensures scan { IfSome result (λ s. (from_of receiver self.now.state.receivers ≡ Some s.from)
-            × (s ≡ record { receiver = receiver; from = s.from; at = s.from; history = self.now.desk.history })) }
+        ensures scan { IfSome result (IsBegun self.now receiver) }
     {
         let from = from_of(self.state.receivers(), receiver)?;
         Some(Scan {
@@ -120,21 +116,14 @@ impl<J: Naming, S: Storage + Drop, R: Rules> Ledger<J, S, R> {
     /// and what is found holds only if it is so.
     pub fn over(&mut self, scan: &mut Scan<J>, bytes: &[u8]) -> Result<Option<Found<J>>, ScanFault>
         // Whether the record makes something due to the receiver.
-        ensures due { IfOk result (λ found. (e : spelling.Entry) → spelling.Fits e → bytes.now ≡ spelling.spelled e →
-            is_some found ≡ makes_due scan.old.receiver e.event) }
-        ensures found { IfOk result (λ found. IfSome found (λ f. f ≡ record {
-          receiver = scan.old.receiver;
-          from = scan.old.from;
-          place = scan.old.at;
-          history = self.new.desk.history;
-        })) }
+        ensures due { IfOk result (λ found. OfSpelled bytes.now (λ e.
+            is_some found ≡ makes_due scan.old.receiver e.event)) }
+        ensures found { IfOk result (λ found. IfSome found (λ f. f ≡ found_at scan.old self.new)) }
         ensures on { IfOk result (λ found. IsNone found →
             scan.new ≡ record scan.old { at = scan.old.at + 1; history = self.new.desk.history }) }
-        ensures noted { OnOk result (self.new ≡ record self.old {
-          desk = record self.old.desk { history = self.old.desk.history ++ Read scan.old.at bytes.now ∷ [] };
-        }) }
+        ensures noted { OnOk result (self.new ≡ with_read scan.old.at bytes.now self.old) }
         ensures unreadable { IsErrOf result ScanFault.Unreadable →
-            (e : spelling.Entry) → spelling.Fits e → bytes.now ≡ spelling.spelled e → ⊥ }
+            OfSpelled bytes.now (λ e. ⊥) }
         // An error leaves the scan as it was, and all that was put.
         ensures state { self.new.state ≡ self.old.state }
         ensures err { OnErr result (scan.new ≡ scan.old) }
@@ -183,7 +172,7 @@ impl<J: Naming, S: Storage + Drop, R: Rules> Ledger<J, S, R> {
         how: How<'_>,
     ) -> Result<Ticket<J>, LedgerFault>
         ensures current { IsCurrent self.old found.now → Puts J.before self.old self.new
-            (record { time = time; event = Passed found.now.receiver found.now.place (view.how how.entry) }) result }
+            (timed time (was_passed found.now (view.how how.entry))) result }
         ensures stale { IsNone self.old.desk.fault → (IsCurrent self.old found.now → ⊥) →
             IsErrOf result LedgerFault.Stale }
         ensures same { IsErrOf result LedgerFault.Stale → self.new ≡ self.old }
