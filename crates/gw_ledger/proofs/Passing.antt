@@ -19,7 +19,7 @@ use Rattle.gw_journal.specs.Logs.{Log, AreFaithful, AreFaithfulFrom, IsAt, after
 use Rattle.gw_journal.proofs.Logging.{log_later, log_read}
 use Rattle.gw_ledger.specs.Ledgers.{IsInState, IsSeenIn, Spells, events_of}
 use Rattle.gw_ledger.specs.Finding.{FoundState, InJournal, IsFound, IsMessage, IsNext, IsQuiet, IsScan, MessageState, ScanState, from_of, is_acceptance, makes_due}
-use Rattle.gw_ledger.proofs.Ledging.{faithful_part, front_spelled, one_reading}
+use Rattle.gw_ledger.proofs.Ledging.{faithful_part, front_spelled}
 
 -- ---- lists
 
