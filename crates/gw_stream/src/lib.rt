@@ -26,7 +26,7 @@ mod writes;
 pub use counts::Counts;
 pub use fault::RunFault;
 pub use frame::block_of;
-pub use judge::{Judge, Outcome};
+pub use judge::{Judge, Outcome, Withheld};
 pub use reads::Reads;
 pub use run::answer_blocks;
 pub use send::send_all;

@@ -42,6 +42,7 @@ use program::command;
 use report::{USAGE, print_unread_words, print_words, status_of};
 use runtime::Runtime;
 use serve::serving;
+use std::marker::Brand;
 use std::io::{IsTerminal, Read, Write};
 use std::net::{Net, TcpListener, TcpStream};
 use std::process::ExitCode;
@@ -75,7 +76,7 @@ fn done<
             keep_freed(rt);
             command(rt, words, &mut input, output, errors)
         }
-        Some(("gateway", words)) => gateway(rt, words),
+        Some(("gateway", words)) => gateway::<Brand, R>(rt, words),
         Some(("tell", words)) => send(rt, words, output),
         Some(("serve", words)) => serving(rt, words, input, output, errors),
         _ => Ok(USAGE),

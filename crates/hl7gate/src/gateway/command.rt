@@ -1,20 +1,21 @@
 //! The command `gateway`: its words, its folder, its threads.
-ghost use Rattle.std.specs.Thread.{IsSync};
+ghost use Rattle.std.specs.Thread.{IsSend, IsSync};
 
 use crate::ended::Ended;
+use crate::gateway::clock::microseconds;
 use crate::gateway::control;
 use crate::gateway::control::{attend_all, control_path};
 use crate::gateway::folder::{Folder, Room};
 use crate::gateway::forwarders::forward_all;
 use crate::gateway::hub::Hub;
-use crate::gateway::install::install;
 use crate::gateway::late::look_at_all;
-use crate::gateway::lobby::Lobby;
-use crate::gateway::numbers::Numbers;
+use crate::gateway::lobby::{Guest, Sender};
+use crate::gateway::opening;
+use crate::gateway::opening::Opened as Log;
 use crate::gateway::page::{Pages, show_all};
-use crate::gateway::receivers::Receivers;
-use crate::gateway::rounds::rounds;
-use crate::gateway::senders::accept_all;
+use crate::gateway::plans::{begin_lines, take};
+use crate::gateway::retention::look_at_files;
+use crate::gateway::senders::{accept_all, attend};
 use crate::plans::read_plan;
 use crate::report::DONE;
 use crate::runtime::Runtime;
@@ -23,10 +24,13 @@ use crate::sockets::listen;
 use crate::stamps::stamp_of;
 use clap::ArgMatches;
 use gw_ack::Stamp;
-use gw_gate::Gate;
+use gw_gateway::{ByPlans, Office, PutFault};
+use gw_journal::{Journal, Naming, Opened, Storage};
+use gw_ledger::{Checkpoints, Ledger};
 use gw_plan::Plan;
 use gw_stream::RunFault;
 use std::io::Eprint;
+use std::marker::Brand;
 use std::net::{Net, SocketAddr, TcpListener, TcpStream};
 use std::os::unix::net::{UnixListener, UnixStream};
 use std::sync::{Arc, Wait};
@@ -34,20 +38,14 @@ use std::thread;
 use std::thread::Threads;
 use std::time::{Clock, Duration};
 
-/// How many threads translate, and how many connections are open at once, where the words don't say.
-const WORKERS: &str = "4";
-
+/// How many connections are open at once, where the words don't say.
 const CONNECTIONS: &str = "1000";
 
 /// After how many fifths of a second the room on the disk is looked at again.
 const LOOK: u64 = 25;
 
-/// How many threads translate, and how many connections are open at most.
-#[derive(Clone, Copy)]
-struct Sizes {
-    workers: u64,
-    connections: u64,
-}
+/// How many bytes a file of the log has at least before the next is begun.
+const LONG: usize = 67_108_864;
 
 /// Where senders, words and readers of the page come in.
 #[derive(Drop)]
@@ -79,7 +77,7 @@ impl Ports {
 }
 
 /// Looks whether the disk has room.
-fn look_at_disk<R: Wait + Clock + Eprint>(hub: &Hub<'_, R>) {
+fn look_at_disk<J: Naming, S: Storage + Drop, R: Wait + Clock + Eprint>(hub: &Hub<'_, J, S, R>) {
     let room = hub.folder.room();
     let is_short = room != Room::Enough;
     if is_short != hub.is_short() {
@@ -101,13 +99,14 @@ fn look_at_disk<R: Wait + Clock + Eprint>(hub: &Hub<'_, R>) {
     hub.set_full(is_full);
 }
 
-/// Looks from time to time whether the disk has room, and which receivers are late, until the gateway can't go on.
-fn watch_all<R: Wait + Clock + Eprint + AllocGlobal>(hub: &Hub<'_, R>) {
+/// Looks from time to time whether the disk has room, which receivers are late, and which files nobody needs, until the gateway ends.
+fn watch_all<J: Naming, S: Storage + Drop, R: Runtime + Wait>(hub: &Hub<'_, J, S, R>) {
     for _ in hub.rt.forever() {
         look_at_disk(hub);
         look_at_all(hub);
+        look_at_files(hub);
         for _fifth in 0..LOOK {
-            if hub.is_closing() {
+            if hub.has_ended() {
                 return;
             }
             thread::sleep(hub.rt, Duration::from_millis(200));
@@ -115,86 +114,97 @@ fn watch_all<R: Wait + Clock + Eprint + AllocGlobal>(hub: &Hub<'_, R>) {
     }
 }
 
-/// Goes on with these receivers, until a plan is to be installed: the gate of the next round. An error is that it was stopped, or can't go on: that is the fault.
-fn go_on<R: Runtime + Threads + Wait + Net<Stream = TcpStream, Listener = TcpListener>>(
-    hub: &Hub<'_, R>,
-    begun: (&mut Numbers, Gate),
-    control: &UnixListener,
-    pages: Option<&Pages>,
-    workers: u64,
-) -> Result<Gate, Option<RunFault>> {
-    let (numbers, gate) = begun;
-    let mut end = Err(None);
+/// Turns a sender away, for whom there is no thread.
+fn turn_away<J: Naming, S: Storage + Drop, R: Wait + Eprint>(
+    hub: &Hub<'_, J, S, R>,
+    sender: Sender,
+) {
+    let number = sender.number;
+    drop(sender);
+    let _ = eprintln!(hub.rt; "session {number} ended: no thread can be started for it");
+    hub.lobby.leave(hub.rt);
+}
+
+/// Goes on until it is stopped, or can't go on. Each sender and each receiver has a thread.
+fn go_on<
+    J: Naming + Send + Sync,
+    S: Storage + Drop + Send + Sync,
+    R: Runtime + Threads + Wait + Net<Stream = TcpStream, Listener = TcpListener>,
+>(
+    hub: &Hub<'_, J, S, R>,
+    ports: Ports,
+    most: u64,
+) {
+    let Ports {
+        senders,
+        control,
+        pages,
+    } = ports;
+    let at = senders.local_addr().ok();
+    let page = match &pages {
+        Some(pages) => pages.address(),
+        None => None,
+    };
+    let (control, pages) = (&control, pages.as_ref());
     // (before anything is sent)
     look_at_disk(hub);
     thread::scope(
         thread::scope_env(),
         hub.rt,
         |scope|
-            requires { IsSync R.row }
+            requires { IsSend S.row × IsSync S.row × IsSync R.row }
         {
             let look = move ||
-                requires { IsSync R.row }
-            {
-                watch_all(hub);
-                hub.exit();
-            };
+                requires { IsSend S.row × IsSync S.row × IsSync R.row }
+            { watch_all(hub) };
             let hear = move ||
-                requires { IsSync R.row }
-            {
-                attend_all(hub, control);
-                hub.exit();
-            };
+                requires { IsSend S.row × IsSync S.row × IsSync R.row }
+            { attend_all(hub, control) };
             let show = move ||
-                requires { IsSync R.row }
+                requires { IsSend S.row × IsSync S.row × IsSync R.row }
             { show_all(hub, pages) };
-            // (the page's thread is woken below, when the round is over)
-            hub.enter(hub.spools.len().saturating_add(2));
-            let mut has_all = scope.spawn(look).is_ok()
+            let accept = move ||
+                requires { IsSend S.row × IsSync S.row × IsSync R.row }
+            { accept_all(hub, senders, most) };
+            let has_all = scope.spawn(look).is_ok()
                 && scope.spawn(hear).is_ok()
-                && scope.spawn(show).is_ok();
-            for number in 0..hub.spools.len() {
-                let send = move ||
-                    requires { IsSync R.row }
-                {
-                    forward_all(hub, number);
-                    hub.exit();
-                };
-                has_all = has_all && scope.spawn(send).is_ok();
-            }
+                && scope.spawn(show).is_ok()
+                && scope.spawn(accept).is_ok();
             if !has_all {
                 hub.fail(RunFault::Memory);
             }
-            end = rounds(hub, gate, numbers, workers);
-            hub.end_sending();
+            for _ in hub.rt.forever() {
+                match hub.lobby.next(hub.rt, Duration::from_millis(100)) {
+                    Some(Guest::Sender(sender)) => {
+                        let attend_one = move ||
+                            requires { IsSend S.row × IsSync S.row × IsSync R.row }
+                        { attend(hub, sender) };
+                        if scope.spawn(attend_one).is_err() {
+                            let _ = eprintln!(hub.rt; "no thread can be started for a connection");
+                            hub.lobby.leave(hub.rt);
+                        }
+                    }
+                    Some(Guest::Line(line)) => {
+                        let send = move ||
+                            requires { IsSend S.row × IsSync S.row × IsSync R.row }
+                        { forward_all(hub, line) };
+                        if scope.spawn(send).is_err() {
+                            hub.fail(RunFault::Memory);
+                        }
+                    }
+                    None => {
+                        if hub.has_ended() {
+                            break;
+                        }
+                    }
+                }
+            }
+            hub.lines.end(hub.rt);
             wake_control(hub.rt, &hub.folder.path);
-            wake(hub.rt, address_of(pages));
+            wake(hub.rt, at);
+            wake(hub.rt, page);
         },
     );
-    end
-}
-
-/// Goes on under one plan after the other, until it is stopped, or can't go on: that is the fault.
-fn go_on_for_ever<R: Runtime + Threads + Wait + Net<Stream = TcpStream, Listener = TcpListener>>(
-    hub: Hub<'_, R>,
-    begun: (Numbers, Gate),
-    control: &UnixListener,
-    pages: Option<&Pages>,
-    workers: u64,
-) -> Option<RunFault> {
-    let rt = hub.rt;
-    let mut hub = hub;
-    let (mut numbers, mut gate) = begun;
-    for _ in rt.forever() {
-        match go_on(&hub, (&mut numbers, gate), control, pages, workers) {
-            Err(fault) => return fault,
-            Ok(last) => match install(&mut hub, last) {
-                Ok(next) => gate = next,
-                Err(fault) => return Some(fault),
-            },
-        }
-    }
-    unreachable!()
 }
 
 /// Wakes the thread that hears words.
@@ -204,11 +214,6 @@ fn wake_control<R: Net + AllocGlobal>(rt: &R, folder: &str) {
     }
 }
 
-/// Where the page is.
-fn address_of(pages: Option<&Pages>) -> Option<SocketAddr> {
-    pages?.address()
-}
-
 /// Wakes the thread that accepts connections at an address.
 fn wake<R: Net<Stream = TcpStream, Listener = TcpListener>>(rt: &R, at: Option<SocketAddr>) {
     if let Some(at) = at {
@@ -216,73 +221,65 @@ fn wake<R: Net<Stream = TcpStream, Listener = TcpListener>>(rt: &R, at: Option<S
     }
 }
 
-/// Takes senders in, while it goes on.
-fn take_in<R: Runtime + Threads + Wait + Net<Stream = TcpStream, Listener = TcpListener>>(
-    hub: Hub<'_, R>,
-    begun: (Numbers, Gate),
-    ports: Ports,
-    sizes: Sizes,
-) -> Option<RunFault> {
-    let (rt, lobby) = (hub.rt, hub.lobby);
-    let Ports {
-        senders,
-        control,
-        pages,
-    } = ports;
-    let at = senders.local_addr().ok();
-    let mut end = None;
-    thread::scope(
-        thread::scope_env(),
-        rt,
-        |scope|
-            requires { IsSync R.row }
-        {
-            let accept = move ||
-                requires { IsSync R.row }
-            { accept_all(rt, lobby, senders, sizes.connections) };
-            if scope.spawn(accept).is_err() {
-                hub.fail(RunFault::Memory);
-            }
-            end = go_on_for_ever(hub, begun, &control, pages.as_ref(), sizes.workers);
-            lobby.close();
-            wake(rt, at);
-        },
-    );
-    end
-}
-
-/// Keeps what it accepts in this folder, under a plan, at ADDRESS.
-fn keep_in<'a, R: Runtime + Threads + Wait + Net<Stream = TcpStream, Listener = TcpListener>>(
+/// Keeps what it accepts in this log, under a plan.
+fn keep<
+    'a,
+    J: Naming + Send + Sync,
+    S: Storage + Drop + Send + Sync,
+    R: Runtime + Threads + Wait + Net<Stream = TcpStream, Listener = TcpListener>,
+>(
     rt: &R,
     words: &ArgMatches<'a>,
     folder: &Folder,
+    office: Office<J, S>,
     plan: Arc<Plan>,
     start: Stamp,
-    sizes: Sizes,
+    most: u64,
 ) -> Result<Option<RunFault>, Ended<'a>> {
-    let receivers = Receivers::open(rt, folder, &plan)?;
+    let journal = Journal::new(rt.alloc(), office);
+    let hub = Hub::new(rt, rt.alloc(), start, folder, journal)?;
+    print_waiting(&hub);
+    match take(&hub, plan) {
+        Ok(_version) => {}
+        Err(PutFault::Memory) => return Err(Ended::Run(RunFault::Memory)),
+        Err(_) => return Err(Ended::Run(RunFault::Write)),
+    }
+    begin_lines(&hub)?;
     let ports = Ports::open(rt, words, folder)?;
-    let lobby = Lobby::new(rt.alloc());
-    let hub = Hub::new(rt, rt.alloc(), start, folder, &lobby, receivers)?;
-    let begun = Numbers::open(rt, folder, plan)?;
-    Ok(take_in(hub, begun, ports, sizes))
+    go_on(&hub, ports, most);
+    Ok(hub.fault())
+}
+
+/// Reports what waits from before the start.
+fn print_waiting<J: Naming, S: Storage + Drop, R: Wait + Eprint>(hub: &Hub<'_, J, S, R>) {
+    let office = hub.journal.lock(hub.rt);
+    for receiver in office.state().receivers() {
+        if receiver.left() > 0 {
+            let (name, left) = (receiver.name().escape_ascii(), receiver.left());
+            let _ = eprintln!(hub.rt;
+                "receiver {name}: {left} messages wait in {}", hub.folder.path
+            );
+        }
+    }
 }
 
 /// Keeps what it accepts in FOLDER, under the plan of the file PLAN, at ADDRESS, and answers the status.
 pub(crate) fn gateway<
     'a,
+    J: Naming + Send + Sync,
     R: Runtime + Threads + Wait + Net<Stream = TcpStream, Listener = TcpListener>,
 >(rt: &R, words: &ArgMatches<'a>) -> Result<u8, Ended<'a>> {
-    let sizes = Sizes {
-        workers: count_or(words, "workers", WORKERS)?,
-        connections: count_or(words, "connections", CONNECTIONS)?,
-    };
+    let most = count_or(words, "connections", CONNECTIONS)?;
     let Some(start) = stamp_of(rt, None) else {
         return Err(Ended::Stamp);
     };
     let plan = Arc::new(rt.alloc(), read_plan(rt, words)?)?;
-    let folder = Folder::open(rt, words.get_str("FOLDER").unwrap_or(""))?;
-    match keep_in(rt, words, &folder, plan, start, sizes)? {
+    let path = words.get_str("FOLDER").unwrap_or("");
+    let Log { stored, state } = opening::open::<Checkpoints, R>(rt, path)?;
+    let folder = Folder::open(rt, path)?;
+    let ledger = Ledger::<J, _, ByPlans>::open(rt.alloc(), Opened::new(), stored, state, LONG);
+    let office = Office::new(rt.alloc(), ledger, plan.clone()?)?;
+    match keep(rt, words, &folder, office, plan, start, most)? {
         None => Ok(DONE),
         Some(fault) => Err(Ended::Run(fault)),
     }

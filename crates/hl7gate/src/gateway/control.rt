@@ -1,9 +1,10 @@
 //! Words to a running gateway, over the socket FOLDER/control: a line comes, an answer goes back, and the connection ends.
 use crate::gateway::hub::Hub;
-use crate::gateway::install::{Ready, ready_or_lines};
+use crate::gateway::plans::take_file;
 use crate::gateway::resend::resend;
 use crate::gateway::status;
 use crate::runtime::Runtime;
+use gw_journal::{Naming, Storage};
 use std::alloc::{AllocError, Global};
 use std::fs::{File, Permissions};
 use std::io::{ErrorKind, Read, Write};
@@ -42,18 +43,16 @@ pub(crate) fn listen<R: Files<File = File> + Net>(rt: &R, path: &str) -> io::Res
 }
 
 /// Holds a receiver's messages back, or sends them on.
-fn hold<R: Wait + AllocGlobal>(
-    hub: &Hub<'_, R>,
+fn hold<J: Naming, S: Storage + Drop, R: Wait + AllocGlobal>(
+    hub: &Hub<'_, J, S, R>,
     name: &str,
     is_held: bool,
 ) -> Result<String, AllocError> {
     let alloc = hub.rt.alloc();
-    let Some(number) = hub.number_of(name) else {
+    let Some(line) = hub.lines.named(hub.rt, name.as_bytes()) else {
         return format!(in alloc; "refused: no receiver of the plan has this name\n");
     };
-    if let Some(spool) = hub.spools.get(number) {
-        spool.hold(hub.rt, is_held);
-    }
+    line.hold(hub.rt, is_held);
     if is_held {
         format!(in alloc; "held: {name} is sent nothing until `go {name}`, or a restart\n")
     } else {
@@ -62,7 +61,10 @@ fn hold<R: Wait + AllocGlobal>(
 }
 
 /// The answer to a line.
-fn answer<R: Runtime + Wait>(hub: &Hub<'_, R>, line: &str) -> Result<String, AllocError> {
+fn answer<J: Naming, S: Storage + Drop, R: Runtime + Wait>(
+    hub: &Hub<'_, J, S, R>,
+    line: &str,
+) -> Result<String, AllocError> {
     let alloc = hub.rt.alloc();
     let (word, rest) = line.split_once(' ').unwrap_or((line, ""));
     match (word, rest) {
@@ -72,7 +74,6 @@ fn answer<R: Runtime + Wait>(hub: &Hub<'_, R>, line: &str) -> Result<String, All
             hub.stop();
             format!(in alloc; "stops: what waits is sent by the next start\n")
         }
-        ("swap", path) if !path.is_empty() => hub.ask_swap(path),
         ("hold", name) if !name.is_empty() => hold(hub, name, true),
         ("go", name) if !name.is_empty() => hold(hub, name, false),
         ("resend", name) if !name.is_empty() => resend(hub, name),
@@ -90,46 +91,36 @@ fn read_line<R: AllocGlobal>(rt: &R, stream: &UnixStream) -> io::Result<String> 
     }
 }
 
-/// Has the plan of this file installed: who asked is answered when it is. Where it can't be, the answer says why.
-fn ask_install<R: Runtime + Wait>(
-    hub: &Hub<'_, R>,
-    path: &str,
+/// Answers one connection.
+fn attend<J: Naming, S: Storage + Drop, R: Runtime + Wait>(
+    hub: &Hub<'_, J, S, R>,
     stream: UnixStream,
 ) -> io::Result<()> {
-    match ready_or_lines(hub, path) {
-        Ok((text, receivers)) => {
-            hub.begin_install(Ready::new(text, receivers, stream));
-            Ok(())
-        }
-        Err(lines) => {
-            let mut writer = stream;
-            writer.write_all(b"refused\n")?;
-            writer.write_all(&lines)
-        }
-    }
-}
-
-/// Answers one connection.
-fn attend<R: Runtime + Wait>(hub: &Hub<'_, R>, stream: UnixStream) -> io::Result<()> {
     stream.set_read_timeout(Some(Duration::from_secs(PATIENCE)))?;
     stream.set_write_timeout(Some(Duration::from_secs(PATIENCE)))?;
     let line = read_line(hub.rt, &stream)?;
     let line = line.trim_end();
+    let mut writer = stream;
     if let Some(path) = line.strip_prefix("install ") {
-        return ask_install(hub, path, stream);
+        return writer.write_all(&take_file(hub, path, true)?);
+    }
+    if let Some(path) = line.strip_prefix("swap ") {
+        return writer.write_all(&take_file(hub, path, false)?);
     }
     let text = answer(hub, line)?;
-    let mut writer = stream;
     writer.write_all(text.as_bytes())
 }
 
-/// Answers one connection after another, until the gateway ends, or its receivers change.
-pub(crate) fn attend_all<R: Runtime + Wait>(hub: &Hub<'_, R>, listener: &UnixListener) {
+/// Answers one connection after another, until the gateway ends.
+pub(crate) fn attend_all<J: Naming, S: Storage + Drop, R: Runtime + Wait>(
+    hub: &Hub<'_, J, S, R>,
+    listener: &UnixListener,
+) {
     for _ in hub.rt.forever() {
         if let Ok((stream, _peer)) = listener.accept() {
             let _ = attend(hub, stream);
         }
-        if hub.is_closing() {
+        if hub.has_ended() {
             return;
         }
     }

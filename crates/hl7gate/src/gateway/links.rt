@@ -1,5 +1,5 @@
 //! The connection to a receiver: made, watched, written and read.
-use crate::gateway::outgoing::Outgoing;
+use crate::gateway::lines::Line;
 use crate::gateway::tally::Tally;
 use crate::sockets;
 use libc::net::{IPPROTO_TCP, SO_KEEPALIVE, SOL_SOCKET, TCP_USER_TIMEOUT, setsockopt};
@@ -50,23 +50,23 @@ pub(crate) fn connect<R: Net<Stream = TcpStream, Listener = TcpListener>>(
 
 /// What a receiver sends: acknowledgments, for each of which there is a minute.
 #[derive(Drop)]
-pub(crate) struct Answers<'a, 'f, R: Wait> {
+pub(crate) struct Answers<'a, R: Wait> {
     rt: &'a R,
-    outgoing: &'a Outgoing<'f>,
+    line: &'a Line,
     stream: &'a TcpStream,
 }
 
-impl<'a, 'f, R: Wait> Answers<'a, 'f, R> {
-    pub(crate) fn new(rt: &'a R, outgoing: &'a Outgoing<'f>, stream: &'a TcpStream) -> Self {
+impl<'a, R: Wait> Answers<'a, R> {
+    pub(crate) fn new(rt: &'a R, line: &'a Line, stream: &'a TcpStream) -> Self {
         Answers {
             rt,
-            outgoing,
+            line,
             stream,
         }
     }
 }
 
-impl<R: Wait> Read for Answers<'_, '_, R> {
+impl<R: Wait> Read for Answers<'_, R> {
     fn read(&mut self, buf: &mut [u8]) -> io::Result<usize> {
         for _second in 0..ANSWER {
             let mut stream = self.stream;
@@ -75,7 +75,7 @@ impl<R: Wait> Read for Answers<'_, '_, R> {
                 read => return read,
             }
             // (an acknowledgment that is due has had a second to come)
-            if self.outgoing.has_ended(self.rt) {
+            if self.line.has_ended(self.rt) {
                 break;
             }
         }

@@ -1,19 +1,35 @@
-//! The senders of a gateway, which stay from round to round, and while its receivers change.
-use crate::gateway::hub::Sender;
+//! What waits for a thread of its own: senders' connections that were taken, and receivers' lines that are new.
+use crate::gateway::lines::Line;
 use std::alloc::Global;
+use std::collections::VecDeque;
+use std::net::TcpStream;
 use std::sync::atomic::{AtomicBool, Ordering};
-use std::sync::{Condvar, CondvarTimeouts, Mutex, Wait};
+use std::sync::{Arc, Condvar, CondvarTimeouts, Mutex, Wait};
 use std::time::{Clock, Duration};
 
-/// The senders that no session attends to, how many connections there are, and how many there were.
+/// A sender's connection, and its number, from 1.
+#[derive(Drop)]
+pub(crate) struct Sender {
+    pub(crate) number: u64,
+    pub(crate) stream: TcpStream,
+}
+
+/// Who gets a thread.
+#[derive(Drop)]
+pub(crate) enum Guest {
+    Sender(Sender),
+    Line(Arc<Line>),
+}
+
+/// Who waits, how many connections there are, and how many there were.
 #[derive(Drop)]
 struct Hall {
-    senders: Vec<Sender>,
+    guests: VecDeque<Guest>,
     open: u64,
     taken: u64,
 }
 
-/// Where senders wait for a session.
+/// Where they wait.
 #[derive(Drop)]
 pub(crate) struct Lobby {
     hall: Mutex<Hall>,
@@ -25,7 +41,7 @@ impl Lobby {
     pub(crate) fn new(alloc: Global) -> Self {
         Lobby {
             hall: Mutex::new(Hall {
-                senders: Vec::new(alloc),
+                guests: VecDeque::new(alloc),
                 open: 0,
                 taken: 0,
             }),
@@ -37,16 +53,12 @@ impl Lobby {
     /// No connection is taken any more.
     pub(crate) fn close(&self) {
         self.is_closed.store(true, Ordering::SeqCst);
+        self.news.notify_all();
     }
 
     /// Whether no connection is taken any more.
     pub(crate) fn is_closed(&self) -> bool {
         self.is_closed.load(Ordering::SeqCst)
-    }
-
-    /// Has who waits for a sender look again.
-    pub(crate) fn wake(&self) {
-        self.news.notify_all();
     }
 
     /// How many connections there are, and how many there were in all.
@@ -66,14 +78,11 @@ impl Lobby {
         Some(hall.taken)
     }
 
-    /// This sender waits for a session. Where there is no memory for it, its connection ends.
-    pub(crate) fn queue<R: Wait>(&self, rt: &R, sender: Sender) {
-        let mut hall = self.hall.lock(rt);
-        if hall.senders.push(sender).is_err() {
-            hall.open = hall.open.saturating_sub(1);
-        }
-        drop(hall);
+    /// Whoever this is waits for a thread. False: there is no memory for it.
+    pub(crate) fn queue<R: Wait>(&self, rt: &R, guest: Guest) -> bool {
+        let queued = self.hall.lock(rt).guests.push_back(guest).is_ok();
         self.news.notify_all();
+        queued
     }
 
     /// A connection has ended.
@@ -82,21 +91,16 @@ impl Lobby {
         hall.open = hall.open.saturating_sub(1);
     }
 
-    /// A sender that waits, if one comes within this time. It isn't waited for where the round is over.
-    pub(crate) fn next<R: Wait + Clock>(
-        &self,
-        rt: &R,
-        time: Duration,
-        is_over: bool,
-    ) -> Option<Sender> {
+    /// Who waits, if one comes within this time.
+    pub(crate) fn next<R: Wait + Clock>(&self, rt: &R, time: Duration) -> Option<Guest> {
         let mut hall = self.hall.lock(rt);
-        if let Some(sender) = hall.senders.pop() {
-            return Some(sender);
+        if let Some(guest) = hall.guests.pop_front() {
+            return Some(guest);
         }
-        if is_over {
+        if self.is_closed() {
             return None;
         }
         let (mut hall, _) = self.news.wait_timeout(rt, hall, time);
-        hall.senders.pop()
+        hall.guests.pop_front()
     }
 }

@@ -8,6 +8,7 @@ use gw_mllp::{is_content, write_block};
 use gw_run::Clock as Stamps;
 use gw_stream::{Counts, RunFault};
 use memchr::memchr;
+use gw_journal::{Naming, Storage};
 use std::alloc::{AllocError, Global};
 use std::io::{Eprint, ErrorKind, Read, Write};
 use std::net::{Shutdown, TcpStream};
@@ -52,8 +53,8 @@ fn header_in(alloc: Global, bytes: &[u8]) -> Result<Option<Header>, AllocError> 
 }
 
 /// The block of the answer AR to the message with this header, under this number.
-fn block_of<R: Wait + Clock>(
-    hub: &Hub<'_, R>,
+fn block_of<J: Naming, S: Storage + Drop, R: Wait + Clock>(
+    hub: &Hub<'_, J, S, R>,
     alloc: Global,
     header: &Header,
     number: u64,
@@ -68,7 +69,7 @@ fn block_of<R: Wait + Clock>(
 }
 
 /// Reads what a sender still sends. If bytes were left unread, the system would drop the answer with them.
-fn read_rest<R: Wait + Clock>(hub: &Hub<'_, R>, stream: &TcpStream) {
+fn read_rest<J: Naming, S: Storage + Drop, R: Wait + Clock>(hub: &Hub<'_, J, S, R>, stream: &TcpStream) {
     let _ = stream.set_read_timeout(Some(Duration::from_millis(LOOK)));
     let Ok(begun) = Instant::now(hub.rt) else {
         return;
@@ -77,7 +78,7 @@ fn read_rest<R: Wait + Clock>(hub: &Hub<'_, R>, stream: &TcpStream) {
     let mut reader = stream;
     for _ in 0..u64::MAX {
         match begun.elapsed(hub.rt) {
-            Ok(passed) if passed < Duration::from_millis(PATIENCE) && !hub.is_over() => {}
+            Ok(passed) if passed < Duration::from_millis(PATIENCE) && !hub.has_ended() => {}
             _ => return,
         }
         match reader.read(&mut piece) {
@@ -89,8 +90,8 @@ fn read_rest<R: Wait + Clock>(hub: &Hub<'_, R>, stream: &TcpStream) {
 }
 
 /// Answers the message that begins in these bytes AR under this number, if its header came. Nothing is sent to this sender any more.
-pub(crate) fn reject<R: Wait + Clock + Eprint + AllocGlobal>(
-    hub: &Hub<'_, R>,
+pub(crate) fn reject<J: Naming, S: Storage + Drop, R: Wait + Clock + Eprint + AllocGlobal>(
+    hub: &Hub<'_, J, S, R>,
     stream: &TcpStream,
     session: u64,
     bytes: &[u8],

@@ -1,11 +1,12 @@
 //! The page, the metrics and the health of a gateway, over HTTP: one connection at a time, for five seconds at most.
 use crate::ended::Ended;
-use crate::gateway::hub::{Counters, Destination, Hub};
-use crate::gateway::outgoing::{Outgoing, State};
+use crate::gateway::hub::{Counters, Hub};
+use crate::gateway::status::{Shown, all_shown};
 use crate::gateway::tally::Tallied;
 use crate::gateway::watch::Seen;
 use crate::stamps::{stamp_of, time_in};
 use clap::ArgMatches;
+use gw_journal::{Naming, Storage};
 use gw_page::{Figures, Receiver, answer};
 use gw_stream::RunFault;
 use std::alloc::{AllocError, Global};
@@ -79,24 +80,16 @@ impl Pages {
 /// A receiver's figures.
 fn receiver_of<R: Wait + Clock + AllocGlobal>(
     rt: &R,
-    to: &Destination,
-    spool: &Outgoing<'_>,
+    shown: &Shown,
 ) -> Result<Receiver, AllocError> {
-    let State {
-        waiting,
-        stuck,
-        is_connected,
-        is_held,
-        ..
-    } = spool.state(rt);
-    let Tallied { sent, aa, ae, ar } = spool.tally.counts();
+    let Tallied { sent, aa, ae, ar } = shown.line.tally.counts();
     Ok(Receiver {
-        name: to.name.as_slice().to_vec(rt.alloc())?,
-        is_connected,
-        is_held,
-        down: spool.tally.away(rt),
-        waiting,
-        oldest: stuck,
+        name: shown.line.name.as_slice().to_vec(rt.alloc())?,
+        is_connected: shown.seen.is_connected,
+        is_held: shown.seen.is_held,
+        down: shown.line.tally.away(rt),
+        waiting: shown.known.left,
+        oldest: shown.seen.stuck,
         sent,
         aa,
         ae,
@@ -104,29 +97,27 @@ fn receiver_of<R: Wait + Clock + AllocGlobal>(
     })
 }
 
-/// The figures of the receivers, in the plan's order.
-fn receivers_of<R: Wait + Clock + AllocGlobal>(
-    hub: &Hub<'_, R>,
+/// The figures of the receivers.
+fn receivers_of<J: Naming, S: Storage + Drop, R: Wait + Clock + AllocGlobal>(
+    hub: &Hub<'_, J, S, R>,
 ) -> Result<Vec<Receiver>, AllocError> {
     let mut receivers = Vec::new(hub.rt.alloc());
-    for (number, spool) in hub.spools.iter().enumerate() {
-        if let Some(to) = hub.destination(number) {
-            receivers.push(receiver_of(hub.rt, to, spool)?)?;
-        }
+    for shown in &all_shown(hub)? {
+        receivers.push(receiver_of(hub.rt, shown)?)?;
     }
     Ok(receivers)
 }
 
 /// The figures of this moment.
-fn figures_of<R: Wait + Clock + AllocGlobal>(hub: &Hub<'_, R>) -> Result<Figures, AllocError> {
+fn figures_of<J: Naming, S: Storage + Drop, R: Wait + Clock + AllocGlobal>(hub: &Hub<'_, J, S, R>) -> Result<Figures, AllocError> {
     let Counters {
-        rounds,
         version,
         accepted,
         is_short,
         ..
     } = hub.counters();
-    let (open, sessions) = hub.senders();
+    let (open, sessions) = hub.lobby.counts(hub.rt);
+    let entries = hub.journal.lock(hub.rt).state().next();
     let Seen {
         refusals,
         codes,
@@ -134,13 +125,13 @@ fn figures_of<R: Wait + Clock + AllocGlobal>(hub: &Hub<'_, R>) -> Result<Figures
     } = hub.watch.seen(hub.rt, hub.rt.alloc())?;
     Ok(Figures {
         time: time_in(stamp_of(hub.rt, None).unwrap_or(hub.start).digits()),
-        rounds,
+        rounds: 0,
         plan: version,
         accepted,
         refused,
         open,
         sessions,
-        entries: hub.entries(),
+        entries,
         is_short,
         has_failed: hub.fault().is_some(),
         receivers: receivers_of(hub)?,
@@ -151,23 +142,23 @@ fn figures_of<R: Wait + Clock + AllocGlobal>(hub: &Hub<'_, R>) -> Result<Figures
 
 /// A connection that is read and written up to a moment, or until the gateway ends or its receivers change.
 #[derive(Drop)]
-struct Patient<'a, 'f, R: Wait> {
-    hub: &'a Hub<'f, R>,
+struct Patient<'a, 'f, J: Naming, S: Storage + Drop, R: Wait> {
+    hub: &'a Hub<'f, J, S, R>,
     stream: &'a TcpStream,
     since: Instant,
     patience: Duration,
 }
 
-impl<R: Wait + Clock> Patient<'_, '_, R> {
+impl<J: Naming, S: Storage + Drop, R: Wait + Clock> Patient<'_, '_, J, S, R> {
     fn is_over(&self) -> bool {
         match self.since.elapsed(self.hub.rt) {
-            Ok(passed) => passed >= self.patience || self.hub.is_closing(),
+            Ok(passed) => passed >= self.patience || self.hub.has_ended(),
             Err(_) => true,
         }
     }
 }
 
-impl<R: Wait + Clock> Read for Patient<'_, '_, R> {
+impl<J: Naming, S: Storage + Drop, R: Wait + Clock> Read for Patient<'_, '_, J, S, R> {
     fn read(&mut self, buf: &mut [u8]) -> io::Result<usize> {
         for _ in 0..PATIENCE * 1_000 / LOOK {
             if self.is_over() {
@@ -183,7 +174,7 @@ impl<R: Wait + Clock> Read for Patient<'_, '_, R> {
     }
 }
 
-impl<R: Wait + Clock> Write for Patient<'_, '_, R> {
+impl<J: Naming, S: Storage + Drop, R: Wait + Clock> Write for Patient<'_, '_, J, S, R> {
     fn write(&mut self, buf: &[u8]) -> io::Result<usize> {
         for _ in 0..PATIENCE * 1_000 / LOOK {
             if self.is_over() {
@@ -204,11 +195,11 @@ impl<R: Wait + Clock> Write for Patient<'_, '_, R> {
 }
 
 /// A connection with this many seconds from now on.
-fn limited<'a, 'f, R: Wait + Clock>(
-    hub: &'a Hub<'f, R>,
+fn limited<'a, 'f, J: Naming, S: Storage + Drop, R: Wait + Clock>(
+    hub: &'a Hub<'f, J, S, R>,
     stream: &'a TcpStream,
     seconds: u64,
-) -> io::Result<Patient<'a, 'f, R>> {
+) -> io::Result<Patient<'a, 'f, J, S, R>> {
     Ok(Patient {
         hub,
         stream,
@@ -218,7 +209,7 @@ fn limited<'a, 'f, R: Wait + Clock>(
 }
 
 /// Passes over what still comes, so that the answer isn't lost with it.
-fn pass_over<R: Wait + Clock>(hub: &Hub<'_, R>, stream: &TcpStream) -> io::Result<()> {
+fn pass_over<J: Naming, S: Storage + Drop, R: Wait + Clock>(hub: &Hub<'_, J, S, R>, stream: &TcpStream) -> io::Result<()> {
     stream.shutdown(Shutdown::Write)?;
     let mut rest = limited(hub, stream, CLOSE)?;
     let mut piece = [0u8; PIECE];
@@ -231,8 +222,8 @@ fn pass_over<R: Wait + Clock>(hub: &Hub<'_, R>, stream: &TcpStream) -> io::Resul
 }
 
 /// Answers one connection.
-fn show<R: Wait + Clock + AllocGlobal>(
-    hub: &Hub<'_, R>,
+fn show<J: Naming, S: Storage + Drop, R: Wait + Clock + AllocGlobal>(
+    hub: &Hub<'_, J, S, R>,
     keys: RandomState,
     stream: &TcpStream,
 ) -> io::Result<()> {
@@ -248,13 +239,13 @@ fn show<R: Wait + Clock + AllocGlobal>(
 }
 
 /// Answers one connection after another, while the receivers stay.
-pub(crate) fn show_all<R: Wait + Clock + AllocGlobal>(hub: &Hub<'_, R>, pages: Option<&Pages>) {
+pub(crate) fn show_all<J: Naming, S: Storage + Drop, R: Wait + Clock + AllocGlobal>(hub: &Hub<'_, J, S, R>, pages: Option<&Pages>) {
     let Some(pages) = pages else {
         return;
     };
     for _ in hub.rt.forever() {
         let accepted = pages.listener.accept();
-        if hub.is_closing() {
+        if hub.has_ended() {
             return;
         }
         match accepted {

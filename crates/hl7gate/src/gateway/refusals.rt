@@ -5,6 +5,7 @@ use crate::stamps::time_in;
 use gw_er7::{Message, Place, Segment, read};
 use gw_mllp::Decoder;
 use memchr::memmem::find;
+use gw_journal::{Naming, Storage};
 use std::alloc::{AllocError, Global};
 use std::io;
 use std::io::{Eprint, Error, ErrorKind, Write};
@@ -15,27 +16,27 @@ use std::sync::Wait;
 /// How many milliseconds one write waits for its sender.
 pub(crate) const TURN: u64 = 200;
 
-/// How many times an answer is waited for: a minute. Once the round is over, all answers of a session are: a second.
+/// How many times an answer is waited for: a minute. Once the gateway ends, all answers of a session are: a second.
 const TURNS: u64 = 300;
 
 const LAST_TURNS: u64 = 5;
 
 /// A sender's connection as its answers are written, with the log.
 #[derive(Drop)]
-pub(crate) struct Logged<'a, 'f, R: Wait> {
+pub(crate) struct Logged<'a, 'f, J: Naming, S: Storage + Drop, R: Wait> {
     alloc: Global,
-    hub: &'a Hub<'f, R>,
+    hub: &'a Hub<'f, J, S, R>,
     stream: &'a TcpStream,
     session: u64,
     answers: Decoder,
-    // how many times an answer was waited for since the round was over
+    // how many times an answer was waited for since the gateway ends
     late: u64,
 }
 
-impl<'a, 'f, R: Wait> Logged<'a, 'f, R> {
+impl<'a, 'f, J: Naming, S: Storage + Drop, R: Wait> Logged<'a, 'f, J, S, R> {
     pub(crate) fn new(
         alloc: Global,
-        hub: &'a Hub<'f, R>,
+        hub: &'a Hub<'f, J, S, R>,
         stream: &'a TcpStream,
         session: u64,
     ) -> Self {
@@ -78,8 +79,8 @@ impl<'a, 'f, R: Wait> Logged<'a, 'f, R> {
     }
 }
 
-impl<R: Wait + Eprint> Logged<'_, '_, R> {
-    // Writes as much as the sender takes in time. The next round waits for the end of this one, so then it has less time.
+impl<J: Naming, S: Storage + Drop, R: Wait + Eprint> Logged<'_, '_, J, S, R> {
+    // Writes as much as the sender takes in time. Once the gateway ends it has less time.
     fn send(&mut self, buf: &[u8]) -> io::Result<usize> {
         let mut stream = self.stream;
         for _turn in 0..TURNS {
@@ -87,7 +88,7 @@ impl<R: Wait + Eprint> Logged<'_, '_, R> {
                 Err(error) if error.kind() == ErrorKind::WouldBlock => {}
                 written => return written,
             }
-            if self.hub.is_over() {
+            if self.hub.has_ended() {
                 self.late = self.late.saturating_add(1);
             }
             if self.late >= LAST_TURNS {
@@ -102,7 +103,7 @@ impl<R: Wait + Eprint> Logged<'_, '_, R> {
     }
 }
 
-impl<R: Wait + Eprint> Write for Logged<'_, '_, R> {
+impl<J: Naming, S: Storage + Drop, R: Wait + Eprint> Write for Logged<'_, '_, J, S, R> {
     fn write(&mut self, buf: &[u8]) -> io::Result<usize> {
         let count = self.send(buf)?.min(buf.len());
         self.take(&buf[..count]);

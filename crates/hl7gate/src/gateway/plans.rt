@@ -1,0 +1,132 @@
+//! Plans that take the place of the one in force.
+use crate::ended::Ended;
+use crate::files::read_text;
+use crate::gateway::clock::microseconds;
+use crate::gateway::hub::Hub;
+use crate::gateway::lines::Line;
+use crate::gateway::lobby::Guest;
+use crate::plans::parse_plan;
+use crate::runtime::Runtime;
+use crate::swaps::{Unswapped, lines_of};
+use gw_due::Receiver;
+use gw_gateway::PutFault;
+use gw_journal::{Naming, Storage};
+use gw_plan::Plan;
+use gw_stream::RunFault;
+use std::alloc::{AllocError, Global};
+use std::io::Write;
+use std::sync::{Arc, Wait};
+
+/// Begins the line of a receiver, which has none yet.
+fn begin_line<J: Naming, S: Storage + Drop, R: Runtime + Wait>(
+    hub: &Hub<'_, J, S, R>,
+    number: u32,
+    name: Vec<u8>,
+) -> Result<(), AllocError> {
+    let line = Arc::new(hub.rt.alloc(), Line::new(number, name))?;
+    line.set_full(hub.rt, hub.is_full());
+    hub.lines.add(hub.rt, line.clone()?)?;
+    if !hub.lobby.queue(hub.rt, Guest::Line(line)) {
+        return Err(AllocError);
+    }
+    Ok(())
+}
+
+/// Whether a receiver gets a line: it is one of the plan, or something is left for it.
+fn has_line(numbers: &[u32], receiver: &Receiver) -> bool {
+    receiver.left() > 0 || numbers.contains(&receiver.number())
+}
+
+/// The receivers that want a line and have none: their numbers and names.
+fn without_line<J: Naming, S: Storage + Drop, R: Runtime + Wait>(
+    hub: &Hub<'_, J, S, R>,
+) -> Result<Vec<(u32, Vec<u8>)>, AllocError> {
+    let alloc = hub.rt.alloc();
+    let mut new = Vec::new(alloc);
+    let office = hub.journal.lock(hub.rt);
+    for receiver in office.state().receivers() {
+        if has_line(&office.current().numbers, receiver) {
+            new.push((receiver.number(), Vec::from_slice(alloc, receiver.name())?))?;
+        }
+    }
+    Ok(new)
+}
+
+/// Begins a line for each receiver that wants one and has none.
+pub(crate) fn begin_lines<J: Naming, S: Storage + Drop, R: Runtime + Wait>(
+    hub: &Hub<'_, J, S, R>,
+) -> Result<(), AllocError> {
+    for (number, name) in without_line(hub)? {
+        if hub.lines.find(hub.rt, number).is_none() {
+            begin_line(hub, number, name)?;
+        }
+    }
+    Ok(())
+}
+
+/// Takes a plan, and gives its version once that is on the disk.
+pub(crate) fn take<J: Naming, S: Storage + Drop, R: Runtime + Wait>(
+    hub: &Hub<'_, J, S, R>,
+    plan: Arc<Plan>,
+) -> Result<u64, PutFault> {
+    let alloc = hub.rt.alloc();
+    hub.plans.keep(hub.rt, plan.clone()?)?;
+    let time = microseconds(hub.rt);
+    let (change, ticket) = hub.journal.lock(hub.rt).take_plan(alloc, time, plan)?;
+    if hub.journal.settle(hub.rt, &ticket).is_err() {
+        return Err(PutFault::Disk);
+    }
+    begin_lines(hub)?;
+    Ok(change.version)
+}
+
+/// The plan of a file.
+fn read_plan<'a, R: Runtime>(
+    rt: &R,
+    alloc: Global,
+    path: &'a str,
+) -> Result<Arc<Plan>, Ended<'a>> {
+    let text = read_text(rt, path)?;
+    let plan = parse_plan(alloc, path, &text)?;
+    Ok(Arc::new(alloc, plan)?)
+}
+
+/// Takes the plan of a file. `is_install`: it may have other receivers. The answer says what came of it.
+pub(crate) fn take_file<J: Naming, S: Storage + Drop, R: Runtime + Wait>(
+    hub: &Hub<'_, J, S, R>,
+    path: &str,
+    is_install: bool,
+) -> Result<Vec<u8>, AllocError> {
+    let alloc = hub.rt.alloc();
+    let mut answer = Vec::new(alloc);
+    let plan = match read_plan(hub.rt, alloc, path) {
+        Ok(plan) => plan,
+        Err(ended) => {
+            answer.extend_from_slice(b"refused\n")?;
+            answer.extend_from_slice(&lines_of(hub.rt, path, &Unswapped::Text(ended)))?;
+            return Ok(answer);
+        }
+    };
+    let current = hub.journal.lock(hub.rt).current().clone()?;
+    if !is_install && !current.plan.same_receivers(&plan) {
+        let _ = writeln!(
+            answer,
+            "refused\nswap refused 3\n{path}: the plan has other receivers\n`install {path}` takes a plan with other receivers"
+        );
+        return Ok(answer);
+    }
+    let word = if is_install { "installed" } else { "swapped" };
+    match take(hub, plan) {
+        Ok(version) => {
+            let _ = writeln!(answer, "{word} {version}");
+        }
+        Err(PutFault::Disk) => {
+            hub.fail(RunFault::Write);
+            let _ = writeln!(answer, "refused\n{path}: the disk has failed");
+        }
+        Err(fault) => {
+            let _ = writeln!(answer, "refused\n{path}: {fault}");
+        }
+    }
+    Ok(answer)
+}
