@@ -1,4 +1,4 @@
-//! Plans that take the place of the one in force.
+//! Plans that take the place of the one in force, and those that the log has.
 use crate::ended::Ended;
 use crate::files::read_text;
 use crate::gateway::clock::microseconds;
@@ -8,12 +8,14 @@ use crate::gateway::lobby::Guest;
 use crate::plans::parse_plan;
 use crate::runtime::Runtime;
 use crate::swaps::{Unswapped, lines_of};
-use gw_due::Receiver;
-use gw_gateway::PutFault;
+use gw_due::{Event, ReadFault, State, read};
+use gw_folder::FolderView;
+use gw_gateway::{PageFault, Pages, PutFault, Tail};
 use gw_journal::{Naming, Storage};
-use gw_plan::Plan;
+use gw_plan::{Plan, PlanFault};
 use gw_stream::RunFault;
 use std::alloc::{AllocError, Global};
+use std::fs::metadata;
 use std::io::Write;
 use std::sync::{Arc, Wait};
 
@@ -24,7 +26,6 @@ fn begin_line<J: Naming, S: Storage + Drop, R: Runtime + Wait>(
     name: Vec<u8>,
 ) -> Result<(), AllocError> {
     let line = Arc::new(hub.rt.alloc(), Line::new(number, name))?;
-    line.set_full(hub.rt, hub.is_full());
     hub.lines.add(hub.rt, line.clone()?)?;
     if !hub.lobby.queue(hub.rt, Guest::Line(line)) {
         return Err(AllocError);
@@ -32,40 +33,42 @@ fn begin_line<J: Naming, S: Storage + Drop, R: Runtime + Wait>(
     Ok(())
 }
 
-/// Whether a receiver gets a line: it is one of the plan, or something is left for it.
-fn has_line(numbers: &[u32], receiver: &Receiver) -> bool {
-    receiver.left() > 0 || numbers.contains(&receiver.number())
-}
-
-/// The receivers that want a line and have none: their numbers and names.
-fn without_line<J: Naming, S: Storage + Drop, R: Runtime + Wait>(
+/// The receivers for which something is left, and those of the plan in force: their numbers and names, and whether the plan has them.
+fn wanted<J: Naming, S: Storage + Drop, R: Runtime + Wait>(
     hub: &Hub<'_, J, S, R>,
-) -> Result<Vec<(u32, Vec<u8>)>, AllocError> {
+) -> Result<Vec<(u32, Vec<u8>, bool)>, AllocError> {
     let alloc = hub.rt.alloc();
-    let mut new = Vec::new(alloc);
+    let mut wanted = Vec::new(alloc);
     let office = hub.journal.lock(hub.rt);
-    for receiver in office.state().receivers() {
-        if has_line(&office.current().numbers, receiver) {
-            new.push((receiver.number(), Vec::from_slice(alloc, receiver.name())?))?;
+    for receiver in office.ledger.state().receivers() {
+        let is_planned = office.current().numbers.contains(&receiver.number());
+        if is_planned || receiver.left() > 0 {
+            let name = Vec::from_slice(alloc, receiver.name())?;
+            wanted.push((receiver.number(), name, is_planned))?;
         }
     }
-    Ok(new)
+    Ok(wanted)
 }
 
-/// Begins a line for each receiver that wants one and has none.
+/// Has each receiver that wants a line have one, and each line know whether the plan in force has its receiver.
 pub(crate) fn begin_lines<J: Naming, S: Storage + Drop, R: Runtime + Wait>(
     hub: &Hub<'_, J, S, R>,
 ) -> Result<(), AllocError> {
-    for (number, name) in without_line(hub)? {
+    let wanted = wanted(hub)?;
+    for line in &hub.lines.all(hub.rt, hub.rt.alloc())? {
+        let is_planned = wanted.iter().any(|one| one.0 == line.number && one.2);
+        line.set_planned(hub.rt, is_planned);
+    }
+    for (number, name, is_planned) in wanted {
         if hub.lines.find(hub.rt, number).is_none() {
-            begin_line(hub, number, name)?;
+            begin_line(hub, number, name, is_planned)?;
         }
     }
     Ok(())
 }
 
 /// Takes a plan, and gives its version once that is on the disk.
-pub(crate) fn take<J: Naming, S: Storage + Drop, R: Runtime + Wait>(
+fn take<J: Naming, S: Storage + Drop, R: Runtime + Wait>(
     hub: &Hub<'_, J, S, R>,
     plan: Arc<Plan>,
 ) -> Result<u64, PutFault> {
@@ -80,12 +83,16 @@ pub(crate) fn take<J: Naming, S: Storage + Drop, R: Runtime + Wait>(
     Ok(change.version)
 }
 
-/// The plan of a file.
+/// The plan of a file, which has to be a regular one: a pipe would be waited for.
 fn read_plan<'a, R: Runtime>(
     rt: &R,
     alloc: Global,
     path: &'a str,
 ) -> Result<Arc<Plan>, Ended<'a>> {
+    match metadata(rt, path) {
+        Ok(of) if of.is_file() => {}
+        _ => return Err(Ended::Unread { path }),
+    }
     let text = read_text(rt, path)?;
     let plan = parse_plan(alloc, path, &text)?;
     Ok(Arc::new(alloc, plan)?)
@@ -120,11 +127,10 @@ pub(crate) fn take_file<J: Naming, S: Storage + Drop, R: Runtime + Wait>(
         Ok(version) => {
             let _ = writeln!(answer, "{word} {version}");
         }
-        Err(PutFault::Disk) => {
-            hub.fail(RunFault::Write);
-            let _ = writeln!(answer, "refused\n{path}: the disk has failed");
-        }
         Err(fault) => {
+            if fault == PutFault::Disk {
+                hub.fail(RunFault::Write);
+            }
             let _ = writeln!(answer, "refused\n{path}: {fault}");
         }
     }
