@@ -111,7 +111,7 @@ pub(crate) fn refuse_spools<'a, R: Files<File = File> + AllocGlobal>(
         return Ok(());
     }
     let said = format!(in rt.alloc();
-        "{path} was made by an earlier hl7gate: let that one deliver what waits, and begin with a new folder\n"
+        "{path} was made by an earlier hl7gate: let that one deliver what waits, and begin with a new folder"
     )?;
     Err(Ended::Unlisted { said })
 }

@@ -5,9 +5,10 @@ use crate::gateway::lines::Line;
 use crate::gateway::links::{Answers, Records, connect, is_ended};
 use crate::runtime::Runtime;
 use gw_ack::Ack;
+use gw_delivery::{Line as Forwarded, PageFault, Pending};
 use gw_folder::FolderView;
 use gw_forward::{Ended, ForwardFault, Outbox, StoreFault, forward};
-use gw_gateway::{Line as Forwarded, PageFault, Pending};
+
 use gw_journal::{Naming, Storage};
 use gw_stream::{Reads, RunFault, Writes};
 use std::alloc::AllocError;
@@ -124,7 +125,7 @@ impl<
         let Here { hub, line, .. } = self.here;
         let is_planned = line.stand(hub.rt).is_planned;
         let office = hub.journal.lock(hub.rt);
-        let receivers = office.state().receivers();
+        let receivers = office.ledger.state().receivers();
         match receivers.iter().find(|r| r.number() == line.number) {
             Some(receiver) if is_planned || receiver.left() > 0 => {
                 Ok(Some(Vec::from_slice(hub.rt.alloc(), receiver.address())?))

@@ -5,7 +5,8 @@ use crate::gateway::lobby::Lobby;
 use crate::gateway::turns::Turns;
 use crate::gateway::watch::Watch;
 use gw_ack::Stamp;
-use gw_gateway::{Office, Plans};
+use gw_delivery::{Plans, Tail};
+use gw_gateway::Office;
 use gw_journal::{Journal, Naming, Storage};
 use gw_stream::RunFault;
 use std::alloc::{AllocError, Global};
@@ -115,11 +116,17 @@ impl<'f, J: Naming, S: Storage + Drop, R: Wait> Hub<'f, J, S, R> {
     /// How many messages are left for a receiver.
     pub(crate) fn left_for(&self, receiver: u32) -> u64 {
         let office = self.journal.lock(self.rt);
-        let receivers = office.state().receivers();
+        let receivers = office.ledger.state().receivers();
         match receivers.iter().find(|r| r.number() == receiver) {
             Some(receiver) => receiver.left(),
             None => 0,
         }
+    }
+
+    /// Up to where the log counts.
+    pub(crate) fn tail(&self) -> Tail {
+        let (segment, end) = self.journal.lock(self.rt).ledger.tail();
+        Tail { segment, end }
     }
 
     /// What it counts since its start.

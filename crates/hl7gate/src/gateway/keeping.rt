@@ -3,9 +3,10 @@
 //! A file is needed from the first on that has a message which is left for a receiver, which a receiver refused and that wasn't due to it again since,
 //! or which is due to it once more; and so is the file of the plan that it is under.
 use crate::gateway::hub::Hub;
-use gw_due::{Event, How, ReadFault, read};
+use crate::gateway::past::left_from;
+use gw_delivery::{Page, PageFault, Pages};
+use gw_due::{Event, How, read};
 use gw_folder::FolderView;
-use gw_gateway::{Page, PageFault, Pages};
 use gw_journal::{Naming, Storage};
 use std::alloc::{AllocError, Global};
 use std::collections::VecDeque;
@@ -34,7 +35,7 @@ struct Kept {
 
 /// What all records up to a place say of files, and of what lies refused. It grows with the files, and with what lies refused.
 #[derive(Drop)]
-pub(crate) struct Keeper<'f, R> {
+pub(crate) struct Keeper<'f, R: Files<File = File> + AllocGlobal + Clone + Drop> {
     alloc: Global,
     pages: Pages<FolderView<'f, R>>,
     files: VecDeque<Begun>,
@@ -68,6 +69,11 @@ impl<'f, R: Files<File = File> + AllocGlobal + Clone + Drop> Keeper<'f, R> {
             refused: VecDeque::new(alloc),
             repeated: VecDeque::new(alloc),
         })
+    }
+
+    /// The place of the record that is read next.
+    pub(crate) fn place(&self) -> u64 {
+        self.pages.place()
     }
 
     // Goes over an event, which stands at this place.
@@ -163,7 +169,10 @@ impl<'f, R: Files<File = File> + AllocGlobal + Clone + Drop> Keeper<'f, R> {
         for one in self.refused.iter().chain(self.repeated.iter()) {
             place = place.min(one.place);
         }
-        let mut needed = 0;
+        let mut needed = match self.files.front() {
+            Some(file) => file.number,
+            None => 0,
+        };
         for file in &self.files {
             if file.first <= place && file.has_plan {
                 needed = file.number;
@@ -180,6 +189,13 @@ impl<'f, R: Files<File = File> + AllocGlobal + Clone + Drop> Keeper<'f, R> {
     }
 }
 
+/// Where what is left for receivers begins, or will begin; and the place of the next record.
+fn left<J: Naming, S: Storage + Drop, R: Wait>(hub: &Hub<'_, J, S, R>) -> (u64, u64) {
+    let office = hub.journal.lock(hub.rt);
+    let state = office.ledger.state();
+    (left_from(state).unwrap_or(state.next()), state.next())
+}
+
 /// Has the files go that aren't needed. They go when the next file is begun. None: what was read isn't known any more.
 pub(crate) fn look_at_files<'f, J: Naming, S: Storage + Drop, R: Wait + Files<File = File> + AllocGlobal + Clone + Drop>(
     hub: &Hub<'f, J, S, R>,
@@ -189,8 +205,7 @@ pub(crate) fn look_at_files<'f, J: Naming, S: Storage + Drop, R: Wait + Files<Fi
         Some(keeper) => keeper,
         None => Keeper::new(hub.rt, &hub.folder.path)?,
     };
-    // (what is left after this look begins there or behind it, or lies refused by then)
-    let (left, next) = hub.left_from();
+    let (left, next) = left(hub);
     match keeper.read_to(hub, next) {
         Ok(true) => {
             let needed = keeper.needed(left);

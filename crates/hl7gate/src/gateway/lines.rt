@@ -56,14 +56,14 @@ pub(crate) struct Line {
 }
 
 impl Line {
-    pub(crate) fn new(number: u32, name: Vec<u8>) -> Self {
+    pub(crate) fn new(number: u32, name: Vec<u8>, is_planned: bool) -> Self {
         Line {
             number,
             name,
             stand: Mutex::new(Stand {
                 is_held: false,
                 is_connected: false,
-                is_planned: true,
+                is_planned,
                 is_rung: false,
                 is_hurried: false,
                 is_late: false,

@@ -8,15 +8,12 @@ use crate::gateway::lobby::Guest;
 use crate::plans::parse_plan;
 use crate::runtime::Runtime;
 use crate::swaps::{Unswapped, lines_of};
-use gw_due::{Event, ReadFault, State, read};
-use gw_folder::FolderView;
-use gw_gateway::{PageFault, Pages, PutFault, Tail};
+use gw_gateway::PutFault;
 use gw_journal::{Naming, Storage};
-use gw_plan::{Plan, PlanFault};
+use gw_plan::Plan;
 use gw_stream::RunFault;
 use std::alloc::{AllocError, Global};
 use std::fs::metadata;
-use std::io::Write;
 use std::sync::{Arc, Wait};
 
 /// Begins the line of a receiver, which has none yet.
@@ -24,8 +21,9 @@ fn begin_line<J: Naming, S: Storage + Drop, R: Runtime + Wait>(
     hub: &Hub<'_, J, S, R>,
     number: u32,
     name: Vec<u8>,
+    is_planned: bool,
 ) -> Result<(), AllocError> {
-    let line = Arc::new(hub.rt.alloc(), Line::new(number, name))?;
+    let line = Arc::new(hub.rt.alloc(), Line::new(number, name, is_planned))?;
     hub.lines.add(hub.rt, line.clone()?)?;
     if !hub.lobby.queue(hub.rt, Guest::Line(line)) {
         return Err(AllocError);
@@ -103,36 +101,30 @@ pub(crate) fn take_file<J: Naming, S: Storage + Drop, R: Runtime + Wait>(
     hub: &Hub<'_, J, S, R>,
     path: &str,
     is_install: bool,
-) -> Result<Vec<u8>, AllocError> {
+) -> Result<String, AllocError> {
     let alloc = hub.rt.alloc();
-    let mut answer = Vec::new(alloc);
     let plan = match read_plan(hub.rt, alloc, path) {
         Ok(plan) => plan,
         Err(ended) => {
-            answer.extend_from_slice(b"refused\n")?;
-            answer.extend_from_slice(&lines_of(hub.rt, path, &Unswapped::Text(ended)))?;
-            return Ok(answer);
+            let lines = lines_of(hub.rt, path, &Unswapped::Text(ended));
+            let lines = String::from_utf8(lines).unwrap_or(String::new(alloc));
+            return format!(in alloc; "refused\n{lines}");
         }
     };
     let current = hub.journal.lock(hub.rt).current().clone()?;
     if !is_install && !current.plan.same_receivers(&plan) {
-        let _ = writeln!(
-            answer,
-            "refused\nswap refused 3\n{path}: the plan has other receivers\n`install {path}` takes a plan with other receivers"
+        return format!(in alloc;
+            "refused\nswap refused 3\n{path}: the plan has other receivers\n`install {path}` takes a plan with other receivers\n"
         );
-        return Ok(answer);
     }
     let word = if is_install { "installed" } else { "swapped" };
     match take(hub, plan) {
-        Ok(version) => {
-            let _ = writeln!(answer, "{word} {version}");
-        }
+        Ok(version) => format!(in alloc; "{word} {version}\n"),
         Err(fault) => {
             if fault == PutFault::Disk {
                 hub.fail(RunFault::Write);
             }
-            let _ = writeln!(answer, "refused\n{path}: {fault}");
+            format!(in alloc; "refused\n{path}: {fault}\n")
         }
     }
-    Ok(answer)
 }
