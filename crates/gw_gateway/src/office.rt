@@ -50,7 +50,7 @@ impl Rules for ByPlans {
 /// The ledger of a gateway, and the plan in force.
 #[derive(Drop)]
 pub struct Office<J: Naming, S: Storage + Drop> {
-    ledger: Ledger<J, S, ByPlans>,
+    pub ledger: Ledger<J, S, ByPlans>,
     current: Arc<InForce>,
     taken: u64,
     time: u64,

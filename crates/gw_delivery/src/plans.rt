@@ -15,6 +15,7 @@ pub struct Plans {
 }
 
 impl Plans {
+    /// None is kept yet.
     pub fn new(alloc: Global) -> Self {
         Plans {
             alloc,

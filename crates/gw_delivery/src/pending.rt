@@ -1,15 +1,14 @@
 //! What waits for a receiver, as its forwarder takes it.
-use crate::fault::{PageFault, PutFault};
-use crate::judge::Times;
+use crate::fault::PageFault;
 use crate::made::made;
-use crate::office::{Office, Tail};
-use crate::pages::{Page, Pages};
+use crate::pages::{Page, Pages, Tail};
 use crate::plans::Plans;
 use gw_ack::Ack;
 use gw_due::{Event, How, ReadFault, read};
 use gw_forward::{Outbox, StoreFault};
-use gw_journal::{Journal, Naming, Storage};
-use gw_ledger::{Found, Scan};
+use gw_gateway::{Office, Times};
+use gw_journal::{Journal, JournalFault, Naming, Storage};
+use gw_ledger::{Found, LedgerFault, Scan};
 use gw_log::Calls;
 use gw_plan::Plan;
 use std::alloc::{AllocError, Global};
@@ -123,11 +122,15 @@ impl<'a, J: Naming, S: Storage + Drop, V: Calls + Drop, R: Wait, L: Line, T: Tim
 
     fn look(&self) -> Option<Look> {
         let office = self.journal.lock(self.rt);
-        let standing = office.standing(self.receiver)?;
+        let receivers = office.ledger.state().receivers();
+        let receiver = receivers
+            .iter()
+            .find(|r| r.number() == self.receiver)?;
+        let (segment, end) = office.ledger.tail();
         Some(Look {
-            from: standing.from,
-            left: standing.left,
-            tail: office.tail(),
+            from: receiver.from(),
+            left: receiver.left(),
+            tail: Tail { segment, end },
         })
     }
 
@@ -224,7 +227,7 @@ impl<'a, J: Naming, S: Storage + Drop, V: Calls + Drop, R: Wait, L: Line, T: Tim
     // Begins to look for what is next, where that isn't done yet.
     fn begin(&mut self, look: Look) -> Result<(), PageFault> {
         if self.scan.is_none() {
-            self.scan = self.journal.lock(self.rt).scan(self.receiver);
+            self.scan = self.journal.lock(self.rt).ledger.scan(self.receiver);
             if self.pages.segment() == 0 || self.pages.place() > look.from {
                 self.pages.seek(look.tail, look.from)?;
             }
@@ -241,7 +244,7 @@ impl<'a, J: Naming, S: Storage + Drop, V: Calls + Drop, R: Wait, L: Line, T: Tim
         if page.place < scan.at() {
             return Ok(None);
         }
-        let found = self.journal.lock(self.rt).over(scan, &page.bytes)?;
+        let found = self.journal.lock(self.rt).ledger.over(scan, &page.bytes)?;
         Ok(found)
     }
 
@@ -278,10 +281,10 @@ impl<'a, J: Naming, S: Storage + Drop, V: Calls + Drop, R: Wait, L: Line, T: Tim
             return Ok(true);
         };
         let time = self.times.time();
-        let put = self.journal.lock(self.rt).pass(time, &next.found, how);
+        let put = self.journal.lock(self.rt).ledger.pass(time, &next.found, how);
         let ticket = match put {
             Ok(ticket) => ticket,
-            Err(PutFault::Memory) => return Err(StoreFault::Memory),
+            Err(LedgerFault::Journal(JournalFault::Memory)) => return Err(StoreFault::Memory),
             Err(_) => return Err(StoreFault::Disk),
         };
         if self.journal.settle(self.rt, &ticket).is_err() {

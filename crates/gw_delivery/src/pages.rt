@@ -1,10 +1,16 @@
 //! The log, read on from a place.
 use crate::fault::{PageFault, page_fault};
-use crate::office::Tail;
 use gw_due::{Event, How, ReadFault, State, read};
 use gw_log::{Calls, Disk, Reader, Recorded, read_head};
 use std::alloc::Global;
 use std::marker::Brand;
+
+/// The last file of the log that counts, and how many of its bytes do.
+#[derive(Clone, Copy)]
+pub struct Tail {
+    pub segment: u64,
+    pub end: usize,
+}
 
 /// A record that was read, and its place.
 #[derive(Drop)]
