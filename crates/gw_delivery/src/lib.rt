@@ -5,12 +5,16 @@
 #![tactic(auto)]
 
 mod fault;
+mod keeping;
 mod made;
 mod pages;
+mod past;
 mod pending;
 mod plans;
 
 pub use fault::PageFault;
+pub use keeping::Keeper;
 pub use pages::{Page, Pages, Tail};
+pub use past::{Past, left_from};
 pub use pending::{Line, Pending};
 pub use plans::Plans;

@@ -1,11 +1,10 @@
 //! Words to a running gateway, over the socket FOLDER/control: a line comes, an answer goes back, and the connection ends.
 use crate::gateway::hub::Hub;
-use crate::gateway::links::listen_briefly;
 use crate::gateway::plans::take_file;
 use crate::gateway::resend::resend;
 use crate::gateway::status;
 use crate::runtime::Runtime;
-use crate::sockets::pause;
+use crate::sockets::{listen_briefly, pause};
 use gw_journal::{Naming, Storage};
 use std::alloc::{AllocError, Global};
 use std::fs::{File, Permissions};

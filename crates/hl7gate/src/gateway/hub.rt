@@ -1,8 +1,6 @@
 //! What the threads of a gateway share.
 use crate::gateway::folder::Folder;
 use crate::gateway::lines::Lines;
-use crate::gateway::lobby::Lobby;
-use crate::gateway::turns::Turns;
 use crate::gateway::watch::Watch;
 use gw_ack::Stamp;
 use gw_delivery::{Plans, Tail};
@@ -13,7 +11,10 @@ use std::alloc::{AllocError, Global};
 use std::sync::atomic::{AtomicBool, AtomicU64, Ordering};
 use std::sync::{Mutex, Wait};
 
-/// The log, the receivers' lines, the senders, and how the gateway stands.
+/// How many messages that are long are read at once.
+const TURNS: u64 = 64;
+
+/// The log, the receivers' lines, and how the gateway stands.
 #[derive(Drop)]
 pub(crate) struct Hub<'f, J: Naming, S: Storage + Drop, R: Wait> {
     pub(crate) rt: &'f R,
@@ -22,9 +23,13 @@ pub(crate) struct Hub<'f, J: Naming, S: Storage + Drop, R: Wait> {
     pub(crate) journal: Journal<J, Office<J, S>>,
     pub(crate) plans: Plans,
     pub(crate) lines: Lines,
-    pub(crate) lobby: Lobby,
-    pub(crate) turns: Turns,
     pub(crate) watch: Watch,
+    // how many connections are open, and how many there were
+    open: AtomicU64,
+    sessions: AtomicU64,
+    // how many sessions have a turn for a long message, and how many wait for one
+    turns: AtomicU64,
+    waiting: AtomicU64,
     is_short: AtomicBool,
     is_full: AtomicBool,
     accepted: AtomicU64,
@@ -36,6 +41,8 @@ pub(crate) struct Hub<'f, J: Naming, S: Storage + Drop, R: Wait> {
 #[derive(Clone, Copy)]
 pub(crate) struct Counters {
     pub(crate) version: u64,
+    pub(crate) open: u64,
+    pub(crate) sessions: u64,
     pub(crate) accepted: u64,
     pub(crate) refused: u64,
     pub(crate) is_short: bool,
@@ -56,9 +63,11 @@ impl<'f, J: Naming, S: Storage + Drop, R: Wait> Hub<'f, J, S, R> {
             journal,
             plans: Plans::new(alloc),
             lines: Lines::new(alloc),
-            lobby: Lobby::new(alloc),
-            turns: Turns::new(),
             watch: Watch::new(alloc)?,
+            open: AtomicU64::new(0),
+            sessions: AtomicU64::new(0),
+            turns: AtomicU64::new(0),
+            waiting: AtomicU64::new(0),
             is_short: AtomicBool::new(false),
             is_full: AtomicBool::new(false),
             accepted: AtomicU64::new(0),
@@ -108,6 +117,52 @@ impl<'f, J: Naming, S: Storage + Drop, R: Wait> Hub<'f, J, S, R> {
         self.is_full.store(is_full, Ordering::SeqCst);
     }
 
+    /// A connection was taken: its number, from 1, or None where there are `most` already.
+    pub(crate) fn admit(&self, most: u64) -> Option<u64> {
+        if self.open.fetch_add(1, Ordering::SeqCst) >= most {
+            self.leave();
+            return None;
+        }
+        Some(
+            self.sessions
+                .fetch_add(1, Ordering::SeqCst)
+                .saturating_add(1),
+        )
+    }
+
+    /// A connection has ended.
+    pub(crate) fn leave(&self) {
+        self.open.fetch_sub(1, Ordering::SeqCst);
+    }
+
+    /// A session has a turn for a long message. False: none is left.
+    pub(crate) fn take_turn(&self) -> bool {
+        if self.turns.fetch_add(1, Ordering::SeqCst) < TURNS {
+            return true;
+        }
+        self.give_turn();
+        false
+    }
+
+    /// A session gives its turn back.
+    pub(crate) fn give_turn(&self) {
+        self.turns.fetch_sub(1, Ordering::SeqCst);
+    }
+
+    /// A session waits for its turn, or doesn't any more.
+    pub(crate) fn set_waiting(&self, waits: bool) {
+        if waits {
+            self.waiting.fetch_add(1, Ordering::SeqCst);
+        } else {
+            self.waiting.fetch_sub(1, Ordering::SeqCst);
+        }
+    }
+
+    /// Whether a session waits for its turn.
+    pub(crate) fn is_waited_for(&self) -> bool {
+        self.waiting.load(Ordering::SeqCst) > 0
+    }
+
     /// Messages were accepted.
     pub(crate) fn count_accepted(&self, more: u64) {
         self.accepted.fetch_add(more, Ordering::SeqCst);
@@ -133,6 +188,8 @@ impl<'f, J: Naming, S: Storage + Drop, R: Wait> Hub<'f, J, S, R> {
     pub(crate) fn counters(&self) -> Counters {
         Counters {
             version: self.journal.lock(self.rt).current().version,
+            open: self.open.load(Ordering::SeqCst),
+            sessions: self.sessions.load(Ordering::SeqCst),
             accepted: self.accepted.load(Ordering::SeqCst),
             refused: self.watch.refused(self.rt),
             is_short: self.is_short(),

@@ -17,7 +17,7 @@ pub(crate) struct Shown {
 }
 
 /// How a line stands. None: the plan lacks its receiver, and nothing is left for it.
-fn shown<J: Naming, S: Storage + Drop, R: Wait + Clock + AllocGlobal>(
+fn stands<J: Naming, S: Storage + Drop, R: Wait + Clock + AllocGlobal>(
     hub: &Hub<'_, J, S, R>,
     line: Arc<Line>,
 ) -> Result<Option<Shown>, AllocError> {
@@ -42,7 +42,7 @@ pub(crate) fn all_shown<J: Naming, S: Storage + Drop, R: Wait + Clock + AllocGlo
 ) -> Result<Vec<Shown>, AllocError> {
     let mut all = Vec::new(hub.rt.alloc());
     for line in hub.lines.all(hub.rt, hub.rt.alloc())? {
-        if let Some(one) = shown(hub, line)? {
+        if let Some(one) = stands(hub, line)? {
             all.push(one)?;
         }
     }
@@ -94,6 +94,8 @@ pub(crate) fn text<J: Naming, S: Storage + Drop, R: Wait + Clock + AllocGlobal>(
 ) -> Result<String, AllocError> {
     let Counters {
         version,
+        open,
+        sessions,
         accepted,
         refused,
         is_short,
@@ -103,7 +105,6 @@ pub(crate) fn text<J: Naming, S: Storage + Drop, R: Wait + Clock + AllocGlobal>(
     } else {
         "has room"
     };
-    let (open, sessions) = hub.lobby.counts(hub.rt);
     let mut text = format!(in hub.rt.alloc();
         "plan {version}, accepted {accepted}, refused {refused}, {open} connections of {sessions}, disk {room}\n"
     )?;
@@ -120,11 +121,12 @@ pub(crate) fn json<J: Naming, S: Storage + Drop, R: Wait + Clock + AllocGlobal>(
 ) -> Result<String, AllocError> {
     let Counters {
         version,
+        open,
+        sessions,
         accepted,
         refused,
         is_short,
     } = hub.counters();
-    let (open, sessions) = hub.lobby.counts(hub.rt);
     let mut text = format!(in hub.rt.alloc();
         "{{\"plan\":{version},\"accepted\":{accepted},\"refused\":{refused},\"connections\":{open},\"sessions\":{sessions},\"short_of_room\":{is_short},\"receivers\":["
     )?;
