@@ -11,6 +11,6 @@ mod pending;
 mod plans;
 
 pub use fault::PageFault;
-pub use pages::{Pages, Tail};
+pub use pages::{Page, Pages, Tail};
 pub use pending::{Line, Pending};
 pub use plans::Plans;

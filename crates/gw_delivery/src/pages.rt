@@ -14,9 +14,9 @@ pub struct Tail {
 
 /// A record that was read, and its place.
 #[derive(Drop)]
-pub(crate) struct Page {
-    pub(crate) place: u64,
-    pub(crate) bytes: Vec<u8>,
+pub struct Page {
+    pub place: u64,
+    pub bytes: Vec<u8>,
 }
 
 /// Reads a log's files on, from one record to the next. It needs memory for one record.
@@ -55,7 +55,7 @@ impl<V: Calls + Drop> Pages<V> {
     }
 
     /// Where the plan in force there stands.
-    pub(crate) fn plan(&self) -> Option<u64> {
+    pub fn plan(&self) -> Option<u64> {
         self.plan
     }
 
@@ -137,7 +137,7 @@ impl<V: Calls + Drop> Pages<V> {
     }
 
     /// The next record. None: it doesn't count yet, or there is none.
-    pub(crate) fn next(&mut self, tail: Tail) -> Result<Option<Page>, PageFault> {
+    pub fn next(&mut self, tail: Tail) -> Result<Option<Page>, PageFault> {
         for _ in 0..u64::MAX {
             if self.segment == 0 {
                 self.seek(tail, 0)?;
@@ -236,7 +236,7 @@ impl<V: Calls + Drop> Pages<V> {
     }
 
     // Goes to the first record of the first file.
-    fn rewind(&mut self, tail: Tail) -> Result<(), PageFault> {
+    pub fn rewind(&mut self, tail: Tail) -> Result<(), PageFault> {
         let Some(view) = self.view.as_mut() else {
             return self.damaged();
         };

@@ -1,6 +1,6 @@
 //! A gateway whose journal is its log.
 //!
-//! An [`Office`] lies under the journal's lock: the desk, the state of all events, and the plan in force. [`AtLog`] judges a sender's messages: what it accepts
+//! An [`Office`] lies under the journal's lock: the ledger, and the plan in force. [`AtLog`] judges a sender's messages: what it accepts
 //! stands in the log before its answer goes out.
 #![tactic(auto)]
 
@@ -10,4 +10,4 @@ mod office;
 
 pub use fault::PutFault;
 pub use judge::{AtLog, Bells, Times};
-pub use office::{ByPlans, Change, InForce, Office, Standing, Tail};
+pub use office::{ByPlans, Change, InForce, Office};

@@ -2,9 +2,11 @@
 use crate::gateway::folder::Folder;
 use crate::gateway::lines::Lines;
 use crate::gateway::lobby::Lobby;
+use crate::gateway::turns::Turns;
 use crate::gateway::watch::Watch;
 use gw_ack::Stamp;
-use gw_gateway::{Office, Plans};
+use gw_delivery::{Plans, Tail};
+use gw_gateway::Office;
 use gw_journal::{Journal, Naming, Storage};
 use gw_stream::RunFault;
 use std::alloc::{AllocError, Global};
@@ -21,11 +23,12 @@ pub(crate) struct Hub<'f, J: Naming, S: Storage + Drop, R: Wait> {
     pub(crate) plans: Plans,
     pub(crate) lines: Lines,
     pub(crate) lobby: Lobby,
+    pub(crate) turns: Turns,
     pub(crate) watch: Watch,
     is_short: AtomicBool,
     is_full: AtomicBool,
     accepted: AtomicU64,
-    has_stopped: AtomicBool,
+    has_ended: AtomicBool,
     fault: Mutex<Option<RunFault>>,
 }
 
@@ -54,25 +57,24 @@ impl<'f, J: Naming, S: Storage + Drop, R: Wait> Hub<'f, J, S, R> {
             plans: Plans::new(alloc),
             lines: Lines::new(alloc),
             lobby: Lobby::new(alloc),
+            turns: Turns::new(),
             watch: Watch::new(alloc)?,
             is_short: AtomicBool::new(false),
             is_full: AtomicBool::new(false),
             accepted: AtomicU64::new(0),
-            has_stopped: AtomicBool::new(false),
+            has_ended: AtomicBool::new(false),
             fault: Mutex::new(None),
         })
     }
 
     /// The gateway is to end.
     pub(crate) fn stop(&self) {
-        self.has_stopped.store(true, Ordering::SeqCst);
-        self.lobby.close();
-        self.lines.end(self.rt);
+        self.has_ended.store(true, Ordering::SeqCst);
     }
 
     /// Whether the gateway ends: it was stopped, or can't go on.
     pub(crate) fn has_ended(&self) -> bool {
-        self.has_stopped.load(Ordering::SeqCst)
+        self.has_ended.load(Ordering::SeqCst)
     }
 
     /// The gateway can't go on: the first fault is its own. No answer goes out any more, and nothing more is sent.
@@ -95,25 +97,36 @@ impl<'f, J: Naming, S: Storage + Drop, R: Wait> Hub<'f, J, S, R> {
         self.is_short.load(Ordering::SeqCst)
     }
 
-    /// Whether the disk is short of room from here on.
-    pub(crate) fn set_short(&self, is_short: bool) {
-        self.is_short.store(is_short, Ordering::SeqCst);
-    }
-
-    /// Whether the disk is full.
+    /// Whether the disk is full. Nothing is sent then: no acknowledgment could be kept.
     pub(crate) fn is_full(&self) -> bool {
         self.is_full.load(Ordering::SeqCst)
     }
 
-    /// Whether the disk is full from here on. Nothing is sent then: no acknowledgment could be kept.
-    pub(crate) fn set_full(&self, is_full: bool) {
+    /// What room the disk has, from here on.
+    pub(crate) fn set_room(&self, is_short: bool, is_full: bool) {
+        self.is_short.store(is_short, Ordering::SeqCst);
         self.is_full.store(is_full, Ordering::SeqCst);
-        self.lines.set_full(self.rt, is_full);
     }
 
     /// Messages were accepted.
     pub(crate) fn count_accepted(&self, more: u64) {
         self.accepted.fetch_add(more, Ordering::SeqCst);
+    }
+
+    /// How many messages are left for a receiver.
+    pub(crate) fn left_for(&self, receiver: u32) -> u64 {
+        let office = self.journal.lock(self.rt);
+        let receivers = office.ledger.state().receivers();
+        match receivers.iter().find(|r| r.number() == receiver) {
+            Some(receiver) => receiver.left(),
+            None => 0,
+        }
+    }
+
+    /// Up to where the log counts.
+    pub(crate) fn tail(&self) -> Tail {
+        let (segment, end) = self.journal.lock(self.rt).ledger.tail();
+        Tail { segment, end }
     }
 
     /// What it counts since its start.

@@ -5,7 +5,6 @@ use crate::stamps::stamp_of;
 use gw_journal::{Naming, Storage};
 use std::alloc::AllocError;
 use std::io::Eprint;
-use std::os::unix::fs::FileExt;
 use std::sync::Wait;
 use std::time::Clock;
 
@@ -28,12 +27,8 @@ fn report<J: Naming, S: Storage + Drop, R: Wait + Clock + Eprint + AllocGlobal>(
     };
     let _ = eprintln!(hub.rt; "{said}");
     let stamp = stamp_of(hub.rt, None).unwrap_or(hub.start);
-    let mut dated = Vec::from_slice(alloc, stamp.digits())?;
-    dated.push(b' ')?;
-    dated.extend_from_slice(said.as_bytes())?;
-    dated.push(b'\n')?;
-    // (the file is opened to be added to)
-    let _ = hub.folder.log.write_all_at(&dated, 0);
+    let dated = format!(in alloc; "{} {said}\n", stamp.digits().escape_ascii())?;
+    hub.folder.add(dated.as_bytes());
     Ok(())
 }
 
@@ -45,10 +40,7 @@ pub(crate) fn look_at_all<J: Naming, S: Storage + Drop, R: Wait + Clock + Eprint
         return;
     };
     for line in &lines {
-        let waiting = match hub.journal.lock(hub.rt).standing(line.number) {
-            Some(standing) => standing.left,
-            None => 0,
-        };
+        let waiting = hub.left_for(line.number);
         line.set_left(hub.rt, waiting, false);
         if let Some(is_late) = line.turn_late(hub.rt, LONG) {
             let _ = report(hub, line, waiting, is_late);

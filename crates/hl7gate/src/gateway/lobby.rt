@@ -3,7 +3,6 @@ use crate::gateway::lines::Line;
 use std::alloc::Global;
 use std::collections::VecDeque;
 use std::net::TcpStream;
-use std::sync::atomic::{AtomicBool, Ordering};
 use std::sync::{Arc, Condvar, CondvarTimeouts, Mutex, Wait};
 use std::time::{Clock, Duration};
 
@@ -34,7 +33,6 @@ struct Hall {
 pub(crate) struct Lobby {
     hall: Mutex<Hall>,
     news: Condvar,
-    is_closed: AtomicBool,
 }
 
 impl Lobby {
@@ -46,19 +44,7 @@ impl Lobby {
                 taken: 0,
             }),
             news: Condvar::new(),
-            is_closed: AtomicBool::new(false),
         }
-    }
-
-    /// No connection is taken any more.
-    pub(crate) fn close(&self) {
-        self.is_closed.store(true, Ordering::SeqCst);
-        self.news.notify_all();
-    }
-
-    /// Whether no connection is taken any more.
-    pub(crate) fn is_closed(&self) -> bool {
-        self.is_closed.load(Ordering::SeqCst)
     }
 
     /// How many connections there are, and how many there were in all.
@@ -96,9 +82,6 @@ impl Lobby {
         let mut hall = self.hall.lock(rt);
         if let Some(guest) = hall.guests.pop_front() {
             return Some(guest);
-        }
-        if self.is_closed() {
-            return None;
         }
         let (mut hall, _) = self.news.wait_timeout(rt, hall, time);
         hall.guests.pop_front()

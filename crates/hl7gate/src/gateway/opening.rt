@@ -22,7 +22,7 @@ fn unopened<'a>(alloc: Global, path: &'a str, fault: OpenFault) -> Ended<'a> {
     match fault {
         OpenFault::Memory => Ended::Run(RunFault::Memory),
         OpenFault::Taken => Ended::Taken { path },
-        fault => match format!(in alloc; "{path}: {fault}\n") {
+        fault => match format!(in alloc; "{path}: {fault}") {
             Ok(said) => Ended::Unlisted { said },
             Err(_) => Ended::Run(RunFault::Memory),
         },
@@ -34,7 +34,7 @@ fn damaged<'a>(alloc: Global, path: &str, fault: LogFault) -> Ended<'a> {
     if fault == LogFault::Memory {
         return Ended::Run(RunFault::Memory);
     }
-    match format!(in alloc; "{path}: {fault}\n{path}: `hl7gate log {path}` says more\n") {
+    match format!(in alloc; "{path}: {fault}\n{path}: `hl7gate log {path}` says more") {
         Ok(said) => Ended::Unlisted { said },
         Err(_) => Ended::Run(RunFault::Memory),
     }
@@ -102,7 +102,7 @@ fn open_over<'a, K: Summary, D: Disk + Drop, R: Runtime>(
         Ok((stored, last)) => match start(alloc, last.checkpoint(), last.records()) {
             Ok(state) => Ok(Opened { stored, state }),
             Err(fault) => {
-                let said = format!(in alloc; "{path}: the last file of the log: {fault}\n")?;
+                let said = format!(in alloc; "{path}: the last file of the log: {fault}")?;
                 Err(Ended::Unlisted { said })
             }
         },

@@ -1,5 +1,6 @@
 //! A message that is too long: it is answered AR where its first segment came, before its connection ends.
 use crate::gateway::hub::Hub;
+use crate::gateway::lobby::Sender;
 use crate::gateway::refusals::Logged;
 use crate::stamps::Utc;
 use gw_ack::{Header, INTERNAL, Reply, answer};
@@ -92,17 +93,17 @@ fn read_rest<J: Naming, S: Storage + Drop, R: Wait + Clock>(hub: &Hub<'_, J, S, 
 /// Answers the message that begins in these bytes AR under this number, if its header came. Nothing is sent to this sender any more.
 pub(crate) fn reject<J: Naming, S: Storage + Drop, R: Wait + Clock + Eprint + AllocGlobal>(
     hub: &Hub<'_, J, S, R>,
-    stream: &TcpStream,
-    session: u64,
+    sender: &Sender,
     bytes: &[u8],
     number: u64,
 ) -> Result<(), AllocError> {
+    let stream = &sender.stream;
     let alloc = hub.rt.alloc();
     let Some(header) = header_in(alloc, bytes)? else {
         return Ok(());
     };
     let block = block_of(hub, alloc, &header, number)?;
-    let mut writer = Logged::new(alloc, hub, stream, session);
+    let mut writer = Logged::new(alloc, hub, stream, sender.number);
     if writer.write_all(&block).is_ok() {
         let _ = stream.shutdown(Shutdown::Write);
         read_rest(hub, stream);

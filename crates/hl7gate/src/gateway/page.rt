@@ -1,9 +1,10 @@
 //! The page, the metrics and the health of a gateway, over HTTP: one connection at a time, for five seconds at most.
 use crate::ended::Ended;
 use crate::gateway::hub::{Counters, Hub};
+use crate::gateway::links::listen_briefly;
 use crate::gateway::status::{Shown, all_shown};
-use crate::gateway::tally::Tallied;
 use crate::gateway::watch::Seen;
+use crate::sockets::pause;
 use crate::stamps::{stamp_of, time_in};
 use clap::ArgMatches;
 use gw_journal::{Naming, Storage};
@@ -12,11 +13,12 @@ use gw_stream::RunFault;
 use std::alloc::{AllocError, Global};
 use std::hash::RandomState;
 use std::io::{Eprint, Error, ErrorKind, Read, Write};
-use std::net::{Net, Shutdown, SocketAddr, TcpListener, TcpStream};
+use std::net::{Net, Shutdown, TcpListener, TcpStream};
 use std::random::RandomSource;
+use std::os::fd::AsRawFd;
 use std::sync::Wait;
 use std::time::{Clock, Duration, Instant};
-use std::{io, thread};
+use std::io;
 
 /// How many seconds a request and its answer may take, and how many the other end has to close its connection.
 const PATIENCE: u64 = 5;
@@ -70,11 +72,6 @@ impl Pages {
         }
         Ok(Some(Pages { listener, keys }))
     }
-
-    /// Where it listens.
-    pub(crate) fn address(&self) -> Option<SocketAddr> {
-        self.listener.local_addr().ok()
-    }
 }
 
 /// A receiver's figures.
@@ -82,18 +79,18 @@ fn receiver_of<R: Wait + Clock + AllocGlobal>(
     rt: &R,
     shown: &Shown,
 ) -> Result<Receiver, AllocError> {
-    let Tallied { sent, aa, ae, ar } = shown.line.tally.counts();
+    let Shown { line, stand, left, .. } = shown;
     Ok(Receiver {
-        name: shown.line.name.as_slice().to_vec(rt.alloc())?,
-        is_connected: shown.seen.is_connected,
-        is_held: shown.seen.is_held,
-        down: shown.line.tally.away(rt),
-        waiting: shown.known.left,
-        oldest: shown.seen.stuck,
-        sent,
-        aa,
-        ae,
-        ar,
+        name: line.name.as_slice().to_vec(rt.alloc())?,
+        is_connected: stand.is_connected,
+        is_held: stand.is_held,
+        down: stand.down(rt),
+        waiting: *left,
+        oldest: stand.stuck(rt),
+        sent: stand.sent,
+        aa: stand.aa,
+        ae: stand.ae,
+        ar: stand.ar,
     })
 }
 
@@ -117,7 +114,7 @@ fn figures_of<J: Naming, S: Storage + Drop, R: Wait + Clock + AllocGlobal>(hub: 
         ..
     } = hub.counters();
     let (open, sessions) = hub.lobby.counts(hub.rt);
-    let entries = hub.journal.lock(hub.rt).state().next();
+    let entries = hub.journal.lock(hub.rt).ledger.state().next();
     let Seen {
         refusals,
         codes,
@@ -243,6 +240,7 @@ pub(crate) fn show_all<J: Naming, S: Storage + Drop, R: Wait + Clock + AllocGlob
     let Some(pages) = pages else {
         return;
     };
+    listen_briefly(pages.listener.as_raw_fd());
     for _ in hub.rt.forever() {
         let accepted = pages.listener.accept();
         if hub.has_ended() {
@@ -251,7 +249,8 @@ pub(crate) fn show_all<J: Naming, S: Storage + Drop, R: Wait + Clock + AllocGlob
         match accepted {
             // (whoever doesn't take the answer has none)
             Ok((stream, _peer)) => drop(show(hub, pages.keys, &stream)),
-            Err(_) => thread::sleep(hub.rt, Duration::from_millis(LOOK)),
+            Err(error) if error.kind() == ErrorKind::WouldBlock => {}
+            Err(_) => pause(hub.rt),
         }
     }
 }

@@ -10,7 +10,6 @@ use std::alloc::{AllocError, Global};
 use std::io;
 use std::io::{Eprint, Error, ErrorKind, Write};
 use std::net::TcpStream;
-use std::os::unix::fs::FileExt;
 use std::sync::Wait;
 
 /// How many milliseconds one write waits for its sender.
@@ -69,12 +68,10 @@ impl<'a, 'f, J: Naming, S: Storage + Drop, R: Wait> Logged<'a, 'f, J, S, R> {
 
     // Notes an answer that isn't AA.
     fn note(&self, answer: &Message) {
-        self.hub
-            .watch
-            .note(self.hub.rt, noted_of(self.session, answer));
-        if let Ok(line) = line_of(self.alloc, self.session, answer) {
-            // (the file is opened to be added to)
-            let _ = self.hub.folder.log.write_all_at(&line, 0);
+        let noted = noted_of(self.session, answer);
+        self.hub.watch.note(self.hub.rt, noted);
+        if let Ok(line) = line_of(self.alloc, &noted) {
+            self.hub.folder.add(line.as_bytes());
         }
     }
 }
@@ -134,54 +131,27 @@ fn field_of<'a>(segment: &Segment<'a>, field: usize) -> &'a [u8] {
     })
 }
 
-/// Adds a word to a line. An empty one is a dash.
-fn put(line: &mut Vec<u8>, word: &[u8]) -> Result<(), AllocError> {
-    line.push(b' ')?;
-    line.extend_from_slice(if word.is_empty() { b"-" } else { word })
-}
-
-/// Adds the condition's code and the place, as ERR has them.
-fn put_error(line: &mut Vec<u8>, error: &Segment<'_>) -> Result<(), AllocError> {
-    put(line, field_of(error, 3))?;
-    for comp in 1..=error.comps(2, 1) {
-        line.push(if comp == 1 { b' ' } else { b'^' })?;
-        line.extend_from_slice(error.text(Place {
-            field: 2,
-            rep: 1,
-            comp,
-            sub: 1,
-        }))?;
-    }
-    Ok(())
-}
-
-/// Adds what the line of an answer has of a segment.
-fn put_segment(line: &mut Vec<u8>, session: &str, segment: &Segment<'_>) -> Result<(), AllocError> {
-    match &segment.name() {
-        // the time of the answer, the session and the answer's number
-        b"MSH" => {
-            line.extend_from_slice(field_of(segment, 7))?;
-            put(line, session.as_bytes())?;
-            put(line, field_of(segment, 10))
-        }
-        b"MSA" => {
-            put(line, field_of(segment, 2))?;
-            put(line, field_of(segment, 1))
-        }
-        b"ERR" => put_error(line, segment),
-        _ => Ok(()),
-    }
-}
-
 /// The line of an answer: its time and number, the session, the message's control id, MSA-1, and the code and place of ERR.
-fn line_of(alloc: Global, session: u64, answer: &Message) -> Result<Vec<u8>, AllocError> {
-    let session = format!(in alloc; "session {session}")?;
-    let mut line = Vec::new(alloc);
-    for i in 0..answer.segment_count() {
-        put_segment(&mut line, session.as_str(), &answer.segment(i))?;
-    }
-    line.push(b'\n')?;
-    Ok(line)
+fn line_of(alloc: Global, noted: &Noted) -> Result<String, AllocError> {
+    let Noted {
+        time,
+        session,
+        number,
+        control,
+        answer,
+        code,
+        place,
+    } = noted;
+    let gap = if place.bytes().is_empty() { "" } else { " " };
+    format!(in alloc;
+        "{} session {session} {} {} {} {}{gap}{}\n",
+        time.escape_ascii(),
+        number.shown(),
+        control.shown(),
+        answer.shown(),
+        code.shown(),
+        place.bytes().escape_ascii()
+    )
 }
 
 fn word_of(text: &[u8]) -> Word {
@@ -207,12 +177,13 @@ fn place_of(error: &Segment<'_>) -> Word {
     place
 }
 
-/// What the page shows of an answer: of the message its place alone, no value and no control id.
+/// What is noted of an answer. Of the message it has no value but the control id, which the page doesn't show.
 fn noted_of(session: u64, answer: &Message) -> Noted {
     let mut noted = Noted {
         time: [b'0'; 14],
         session,
         number: Word::new(),
+        control: Word::new(),
         answer: Word::new(),
         code: Word::new(),
         place: Word::new(),
@@ -224,7 +195,10 @@ fn noted_of(session: u64, answer: &Message) -> Noted {
                 noted.time = time_in(field_of(&segment, 7));
                 noted.number = word_of(field_of(&segment, 10));
             }
-            b"MSA" => noted.answer = word_of(field_of(&segment, 1)),
+            b"MSA" => {
+                noted.answer = word_of(field_of(&segment, 1));
+                noted.control = word_of(field_of(&segment, 2));
+            }
             b"ERR" => {
                 noted.code = word_of(field_of(&segment, 3));
                 noted.place = place_of(&segment);

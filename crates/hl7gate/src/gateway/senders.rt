@@ -1,7 +1,7 @@
 //! Sessions: no answer goes out before what it answers is on the disk.
 use crate::gateway::clock::Now;
 use crate::gateway::hub::Hub;
-use crate::gateway::links::watch;
+use crate::gateway::links::{listen_briefly, watch};
 use crate::gateway::lobby::{Guest, Sender};
 use crate::gateway::overlong::{is_overlong, reject};
 use crate::gateway::refusals::{Logged, TURN};
@@ -11,8 +11,9 @@ use crate::threads::print_counts;
 use gw_gateway::{AtLog, Bells};
 use gw_journal::{Naming, Storage};
 use gw_stream::{Counts, Reads, RunFault, Writes, answer_blocks};
-use std::io::Eprint;
-use std::net::TcpListener;
+use std::io::{Eprint, ErrorKind};
+use std::net::{SocketAddr, TcpListener, TcpStream};
+use std::os::fd::AsRawFd;
 use std::sync::Wait;
 use std::time::{Clock, Duration};
 
@@ -51,9 +52,10 @@ fn answer<J: Naming, S: Storage + Drop, R: Wait + AllocGlobal + Clock + Eprint>(
     let mut writer = Writes::new(Logged::new(alloc, hub, &sender.stream, sender.number));
     let mut reader = Reads::new(&mut sent);
     let answered = answer_blocks(alloc, &mut judge, &mut reader, &mut writer);
+    sent.give_turn();
     if is_overlong(&answered) {
         let number = judge.number(alloc);
-        reject(hub, &sender.stream, sender.number, &sent.into_beginning(), number)?;
+        reject(hub, sender, sent.beginning(), number)?;
     }
     answered
 }
@@ -79,41 +81,51 @@ pub(crate) fn attend<J: Naming, S: Storage + Drop, R: Wait + AllocGlobal + Clock
     hub.lobby.leave(hub.rt);
 }
 
+/// Has a connection that was accepted wait for its thread, where fewer than `most` are open.
+fn welcome<J: Naming, S: Storage + Drop, R: Wait + Eprint>(
+    hub: &Hub<'_, J, S, R>,
+    stream: TcpStream,
+    peer: SocketAddr,
+    most: u64,
+) {
+    let rt = hub.rt;
+    let Some(number) = hub.lobby.admit(rt, most) else {
+        let _ = eprintln!(rt; "a connection from {peer} was closed: {most} are open (--connections)");
+        return;
+    };
+    let _ = eprintln!(rt; "session {number} from {peer}");
+    let _ = stream.set_nodelay(true);
+    let _ = stream.set_write_timeout(Some(Duration::from_millis(TURN)));
+    watch(&stream);
+    if !hub.lobby.queue(rt, Guest::Sender(Sender { number, stream })) {
+        hub.lobby.leave(rt);
+    }
+}
+
 /// Accepts connections, at most as many at once, until the gateway ends.
-pub(crate) fn accept_all<J: Naming, S: Storage + Drop, R: Wait + AllocGlobal + Clock + Eprint>(
+pub(crate) fn accept_all<J: Naming, S: Storage + Drop, R: Wait + Clock + Eprint>(
     hub: &Hub<'_, J, S, R>,
     listener: TcpListener,
     most: u64,
 ) {
     let rt = hub.rt;
+    let mut is_refused = false;
+    listen_briefly(listener.as_raw_fd());
     for _ in rt.forever() {
+        if hub.has_ended() {
+            return;
+        }
         match listener.accept() {
             Ok((stream, peer)) => {
-                if hub.lobby.is_closed() {
-                    return;
-                }
-                match hub.lobby.admit(rt, most) {
-                    Some(number) => {
-                        let _ = eprintln!(rt; "session {number} from {peer}");
-                        let _ = stream.set_nodelay(true);
-                        let _ = stream.set_write_timeout(Some(Duration::from_millis(TURN)));
-                        watch(&stream);
-                        let sender = Sender { number, stream };
-                        if !hub.lobby.queue(rt, Guest::Sender(sender)) {
-                            hub.lobby.leave(rt);
-                        }
-                    }
-                    None => {
-                        let _ = eprintln!(rt;
-                            "a connection from {peer} was closed: {most} are open (--connections)"
-                        );
-                    }
-                }
+                is_refused = false;
+                welcome(hub, stream, peer, most);
             }
-            Err(_) => {
-                if hub.lobby.is_closed() {
-                    return;
+            Err(error) if error.kind() == ErrorKind::WouldBlock => {}
+            Err(error) => {
+                if !is_refused {
+                    let _ = eprintln!(rt; "connections can't be accepted now: {error}");
                 }
+                is_refused = true;
                 pause(rt);
             }
         }

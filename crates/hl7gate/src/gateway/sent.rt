@@ -1,5 +1,6 @@
 //! What a sender sends, as a session reads it.
 use crate::gateway::hub::Hub;
+use crate::gateway::turns::FREE;
 use gw_journal::{Naming, Storage};
 use memchr::{memchr, memrchr};
 use std::alloc::{AllocError, Global};
@@ -8,7 +9,7 @@ use std::io::{Error, ErrorKind, Read};
 use std::mem::swap;
 use std::net::TcpStream;
 use std::sync::Wait;
-use std::time::Duration;
+use std::time::{Clock, Duration, Instant};
 
 /// The bytes that begin and end a message (MLLP Release 1).
 const VT: u8 = 0x0b;
@@ -26,11 +27,16 @@ const SILENCE: u64 = 30_000;
 
 const LAST: u64 = 2_000;
 
+/// How many seconds a long message may take to come, where others wait for their turn.
+const PATIENCE: u64 = 60;
+
 /// Where a stream stands: within a message or not, and the beginning of the message. Of the one that the last piece ended, the beginning is kept too:
 /// if it is too long, its session ends before the next piece is read.
 #[derive(Drop)]
 struct Stand {
     is_within: bool,
+    // of the message, so far
+    size: usize,
     beginning: Vec<u8>,
     ended: Vec<u8>,
 }
@@ -49,6 +55,7 @@ impl Stand {
                 swap(&mut self.ended, &mut self.beginning);
             }
             self.is_within = false;
+            self.size = 0;
             self.beginning.clear();
         }
         let rest = piece.get(behind..).unwrap_or(&[]);
@@ -65,6 +72,7 @@ impl Stand {
     }
 
     fn keep(&mut self, bytes: &[u8]) -> Result<(), AllocError> {
+        self.size = self.size.saturating_add(bytes.len());
         let room = BEGINNING.saturating_sub(self.beginning.len());
         let first = bytes.get(..room.min(bytes.len())).unwrap_or(&[]);
         self.beginning.extend_from_slice(first)?;
@@ -72,16 +80,18 @@ impl Stand {
     }
 }
 
-/// A sender's connection. It ends between two messages where the gateway ends.
+/// A sender's connection. It ends between two messages where the gateway ends. A message that is long is read on once it has a turn.
 #[derive(Drop)]
 pub(crate) struct Sent<'a, 'f, J: Naming, S: Storage + Drop, R: Wait> {
     hub: &'a Hub<'f, J, S, R>,
     stream: &'a TcpStream,
     stand: Stand,
     silent: u64,
+    // since when it has a turn
+    turn: Option<Instant>,
 }
 
-impl<'a, 'f, J: Naming, S: Storage + Drop, R: Wait> Sent<'a, 'f, J, S, R> {
+impl<'a, 'f, J: Naming, S: Storage + Drop, R: Wait + Clock> Sent<'a, 'f, J, S, R> {
     pub(crate) fn new(alloc: Global, hub: &'a Hub<'f, J, S, R>, stream: &'a TcpStream) -> Self {
         let _ = stream.set_read_timeout(Some(Duration::from_millis(LOOK)));
         Sent {
@@ -89,20 +99,53 @@ impl<'a, 'f, J: Naming, S: Storage + Drop, R: Wait> Sent<'a, 'f, J, S, R> {
             stream,
             stand: Stand {
                 is_within: false,
+                size: 0,
                 beginning: Vec::new(alloc),
                 ended: Vec::new(alloc),
             },
             silent: 0,
+            turn: None,
         }
     }
 
     /// The beginning of the message that the session was about to get.
-    pub(crate) fn into_beginning(self) -> Vec<u8> {
-        let Sent { stand, .. } = self;
-        let Stand {
-            beginning, ended, ..
-        } = stand;
-        if ended.is_empty() { beginning } else { ended }
+    pub(crate) fn beginning(&self) -> &[u8] {
+        if self.stand.ended.is_empty() {
+            &self.stand.beginning
+        } else {
+            &self.stand.ended
+        }
+    }
+
+    /// Has no turn any more.
+    pub(crate) fn give_turn(&mut self) {
+        if self.turn.is_some() {
+            self.turn = None;
+            self.hub.turns.give(self.hub.rt);
+        }
+    }
+
+    // Has a turn, where the message is long. Whoever has one for long, while others wait, is not waited for.
+    fn take_turn(&mut self) -> io::Result<()> {
+        let (rt, turns) = (self.hub.rt, &self.hub.turns);
+        match self.turn {
+            None if self.stand.size >= FREE => {
+                for _ in rt.forever() {
+                    if turns.take(rt, Duration::from_millis(LOOK)) {
+                        self.turn = Some(Instant::now(rt)?);
+                        return Ok(());
+                    }
+                    if self.hub.has_ended() {
+                        return Err(Error::from(ErrorKind::TimedOut));
+                    }
+                }
+                Ok(())
+            }
+            Some(since) if since.elapsed(rt)?.as_secs() >= PATIENCE && turns.are_wanted(rt) => {
+                Err(Error::from(ErrorKind::TimedOut))
+            }
+            _ => Ok(()),
+        }
     }
 
     // Nothing came in time. False: the session ends here.
@@ -121,11 +164,16 @@ impl<'a, 'f, J: Naming, S: Storage + Drop, R: Wait> Sent<'a, 'f, J, S, R> {
     }
 }
 
-impl<J: Naming, S: Storage + Drop, R: Wait> Read for Sent<'_, '_, J, S, R> {
+impl<J: Naming, S: Storage + Drop, R: Wait + Clock> Read for Sent<'_, '_, J, S, R> {
     fn read(&mut self, buf: &mut [u8]) -> io::Result<usize> {
-        if !self.stand.is_within && self.hub.has_ended() {
-            return Ok(0);
+        if !self.stand.is_within {
+            // (what came before is answered)
+            self.give_turn();
+            if self.hub.has_ended() {
+                return Ok(0);
+            }
         }
+        self.take_turn()?;
         for _ in 0..u64::MAX {
             let mut stream = self.stream;
             match stream.read(buf) {

@@ -1,50 +1,38 @@
 //! What a gateway says of itself. Nothing of a message is in it.
 use crate::gateway::hub::{Counters, Hub};
-use crate::gateway::lines::{Line, Seen};
-use gw_due::Receiver;
+use crate::gateway::lines::{Line, Stand};
 use gw_journal::{Naming, Storage};
-use std::alloc::{AllocError, Global};
+use std::alloc::AllocError;
 use std::sync::{Arc, Wait};
 use std::time::Clock;
 
-/// A receiver as the log has it.
+/// A receiver's line, how it stands, and what the log has of it: its address, how many are left for it, and how many it refused in all.
 #[derive(Drop)]
-pub(crate) struct Known {
+pub(crate) struct Shown {
+    pub(crate) line: Arc<Line>,
+    pub(crate) stand: Stand,
     pub(crate) address: Vec<u8>,
     pub(crate) left: u64,
     pub(crate) refused: u64,
 }
 
-/// A receiver's line, and how it stands.
-#[derive(Drop)]
-pub(crate) struct Shown {
-    pub(crate) line: Arc<Line>,
-    pub(crate) seen: Seen,
-    pub(crate) known: Known,
-}
-
-fn known_of(alloc: Global, receiver: &Receiver) -> Result<Known, AllocError> {
-    Ok(Known {
-        address: Vec::from_slice(alloc, receiver.address())?,
-        left: receiver.left(),
-        refused: receiver.refused(),
-    })
-}
-
-/// How a line stands.
+/// How a line stands. None: the plan lacks its receiver, and nothing is left for it.
 fn shown<J: Naming, S: Storage + Drop, R: Wait + Clock + AllocGlobal>(
     hub: &Hub<'_, J, S, R>,
     line: Arc<Line>,
 ) -> Result<Option<Shown>, AllocError> {
-    let seen = line.seen(hub.rt);
+    let stand = line.stand(hub.rt);
     let office = hub.journal.lock(hub.rt);
-    let receivers = office.state().receivers();
+    let receivers = office.ledger.state().receivers();
     match receivers.iter().find(|r| r.number() == line.number) {
-        Some(receiver) => {
-            let known = known_of(hub.rt.alloc(), receiver)?;
-            Ok(Some(Shown { line, seen, known }))
-        }
-        None => Ok(None),
+        Some(receiver) if stand.is_planned || receiver.left() > 0 => Ok(Some(Shown {
+            line,
+            stand,
+            address: Vec::from_slice(hub.rt.alloc(), receiver.address())?,
+            left: receiver.left(),
+            refused: receiver.refused(),
+        })),
+        _ => Ok(None),
     }
 }
 
@@ -62,30 +50,41 @@ pub(crate) fn all_shown<J: Naming, S: Storage + Drop, R: Wait + Clock + AllocGlo
 }
 
 /// A receiver's line, to be read.
-fn receiver_text<R: AllocGlobal>(rt: &R, shown: &Shown) -> Result<String, AllocError> {
-    let name = shown.line.name.escape_ascii();
-    let address = shown.known.address.escape_ascii();
-    let stands = match (shown.seen.is_held, shown.seen.is_connected) {
+fn receiver_text<R: Clock + AllocGlobal>(rt: &R, shown: &Shown) -> Result<String, AllocError> {
+    let Shown {
+        line,
+        stand,
+        address,
+        left,
+        refused,
+    } = shown;
+    let (name, address) = (line.name.escape_ascii(), address.escape_ascii());
+    let stands = match (stand.is_held, stand.is_connected) {
         (true, _) => "held",
         (false, true) => "connected",
         (false, false) => "not connected",
     };
-    let (waiting, refused) = (shown.known.left, shown.known.refused);
-    let (stuck, taken) = (shown.seen.stuck, shown.seen.taken);
+    let (stuck, taken) = (stand.stuck(rt), stand.aa);
     format!(in rt.alloc();
-        "{name} at {address}: {stands}, {waiting} wait, the first for {stuck} s, taken {taken}, refused {refused}\n"
+        "{name} at {address}: {stands}, {left} wait, the first for {stuck} s, taken {taken}, refused {refused}\n"
     )
 }
 
 /// A receiver as JSON.
-fn receiver_json<R: AllocGlobal>(rt: &R, shown: &Shown) -> Result<String, AllocError> {
-    // (a name is letters, digits and `_`; an address is a word without quotes)
-    let name = shown.line.name.escape_ascii();
-    let (is_held, is_connected) = (shown.seen.is_held, shown.seen.is_connected);
-    let (waiting, refused) = (shown.known.left, shown.known.refused);
-    let (stuck, taken) = (shown.seen.stuck, shown.seen.taken);
+fn receiver_json<R: Clock + AllocGlobal>(rt: &R, shown: &Shown) -> Result<String, AllocError> {
+    let Shown {
+        line,
+        stand,
+        left,
+        refused,
+        ..
+    } = shown;
+    // (a name is letters, digits and `_`)
+    let name = line.name.escape_ascii();
+    let (is_held, is_connected) = (stand.is_held, stand.is_connected);
+    let (stuck, taken) = (stand.stuck(rt), stand.aa);
     format!(in rt.alloc();
-        "{{\"name\":\"{name}\",\"connected\":{is_connected},\"held\":{is_held},\"waiting\":{waiting},\"first_waits_seconds\":{stuck},\"taken\":{taken},\"refused\":{refused}}}"
+        "{{\"name\":\"{name}\",\"connected\":{is_connected},\"held\":{is_held},\"waiting\":{left},\"first_waits_seconds\":{stuck},\"taken\":{taken},\"refused\":{refused}}}"
     )
 }
 

@@ -2,6 +2,7 @@
 use gw_page::{Refusal, Refused};
 use std::alloc::{AllocError, Global};
 use std::collections::VecDeque;
+use std::slice::EscapeAscii;
 use std::sync::{Mutex, Wait};
 
 /// How many refusals are kept.
@@ -40,8 +41,16 @@ impl Word {
         }
     }
 
-    fn bytes(&self) -> &[u8] {
+    pub(crate) fn bytes(&self) -> &[u8] {
         self.bytes.get(..self.len).unwrap_or(&self.bytes)
+    }
+
+    /// The word as a line has it: a dash where it is empty.
+    pub(crate) fn shown(&self) -> EscapeAscii<'_> {
+        match self.bytes() {
+            [] => b"-".escape_ascii(),
+            bytes => bytes.escape_ascii(),
+        }
     }
 }
 
@@ -51,6 +60,7 @@ pub(crate) struct Noted {
     pub(crate) time: [u8; 14],
     pub(crate) session: u64,
     pub(crate) number: Word,
+    pub(crate) control: Word,
     pub(crate) answer: Word,
     pub(crate) code: Word,
     pub(crate) place: Word,
