@@ -60,11 +60,29 @@ impl<J: Naming> Model for Found<J> {
 }
 
 impl<J: Naming> Found<J> {
+    ghost use Rattle.std.specs.Prelude.{◌≡◌};
+    ghost use Rattle.gw_ledger.specs.Finding.{IsFound};
+
     /// The place at which it is due.
     pub fn place(&self) -> u64
-        ensures { result ≡ self.now.place }
+        ensures place { result ≡ self.now.place }
+        ensures found { IsFound J.before self.now }
     {
         self.place
+    }
+
+    /// From where on it is the first that is due.
+    pub fn from(&self) -> u64
+        ensures { result ≡ self.now.from }
+    {
+        self.from
+    }
+
+    /// What was seen of the journal.
+    pub fn front(&self) -> &Front<J>
+        ensures { result.now ≡ self.now.history }
+    {
+        &self.front
     }
 }
 
