@@ -71,6 +71,13 @@ impl<J: Naming> Found<J> {
         self.place
     }
 
+    /// The number of its receiver.
+    pub fn receiver(&self) -> u32
+        ensures { result ≡ self.now.receiver }
+    {
+        self.receiver
+    }
+
     /// From where on it is the first that is due.
     pub fn from(&self) -> u64
         ensures { result ≡ self.now.from }
@@ -189,6 +196,7 @@ impl<J: Naming, S: Storage + Drop, R: Rules> Ledger<J, S, R> {
         found: &Found<J>,
         how: How<'_>,
     ) -> Result<Ticket<J>, LedgerFault>
+        ensures ok { OnOk result (IsCurrent self.old found.now) }
         ensures current { IsCurrent self.old found.now → Puts J.before self.old self.new
             (timed time (was_passed found.now (view.how how.entry))) result }
         ensures stale { IsNone self.old.desk.fault → (IsCurrent self.old found.now → ⊥) →
