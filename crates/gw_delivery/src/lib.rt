@@ -5,10 +5,15 @@
 #![tactic(auto)]
 
 mod fault;
+mod finder;
 mod made;
+mod next;
 mod pages;
 mod pending;
 mod plans;
+mod sight;
+mod under;
+mod walk;
 
 pub use fault::PageFault;
 pub use pages::{Page, Pages, Tail};

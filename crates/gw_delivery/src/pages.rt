@@ -1,6 +1,6 @@
 //! The log, read on from a place.
 use crate::fault::{PageFault, page_fault};
-use gw_due::{Event, How, ReadFault, State, read};
+use gw_due::{Event, ReadFault, State, read};
 use gw_log::{Calls, Disk, Reader, Recorded, read_head};
 use std::alloc::Global;
 use std::marker::Brand;
@@ -59,11 +59,17 @@ impl<V: Calls + Drop> Pages<V> {
         self.plan
     }
 
-    fn damaged<T>(&self) -> Result<T, PageFault> {
+    // Where it stands, as a fault.
+    pub(crate) fn damaged<T>(&self) -> Result<T, PageFault> {
         Err(PageFault::Damaged {
             segment: self.segment,
             at: self.at,
         })
+    }
+
+    /// Before any file again.
+    pub(crate) fn leave(&mut self) {
+        self.segment = 0;
     }
 
     // Where the records of a file end.
@@ -163,11 +169,6 @@ impl<V: Calls + Drop> Pages<V> {
         Ok(None)
     }
 
-    /// The next record's place is one of a plan.
-    pub(crate) fn note_plan(&mut self, place: u64) {
-        self.plan = Some(place);
-    }
-
     /// The record at this place.
     pub fn find(&mut self, tail: Tail, place: u64) -> Result<Vec<u8>, PageFault> {
         if self.segment == 0 || self.place > place {
@@ -188,54 +189,8 @@ impl<V: Calls + Drop> Pages<V> {
         }
         self.damaged()
     }
-}
 
-impl<V: Calls + Drop> Pages<V> {
-    /// The places of the log's files that a receiver refused, and that weren't due to it again since, in order.
-    pub fn refused(&mut self, tail: Tail, receiver: u32) -> Result<Vec<u64>, PageFault> {
-        let mut places: Vec<u64> = Vec::new(self.alloc);
-        // where it was due again, and what
-        let mut agains: Vec<(u64, u64)> = Vec::new(self.alloc);
-        self.rewind(tail)?;
-        for _ in 0..u64::MAX {
-            let Some(page) = self.next(tail)? else {
-                break;
-            };
-            let entry = match read(self.alloc, &page.bytes) {
-                Ok(entry) => entry,
-                Err(ReadFault::Memory) => return Err(PageFault::Memory),
-                Err(ReadFault::Unreadable) => return self.damaged(),
-            };
-            match entry.event {
-                Event::Passed {
-                    receiver: who,
-                    place,
-                    how: How::Refused { .. },
-                } => {
-                    if who == receiver {
-                        let first = match agains.iter().find(|again| again.0 == place) {
-                            Some(again) => again.1,
-                            None => place,
-                        };
-                        places.push(first)?;
-                    }
-                }
-                Event::Again {
-                    receiver: who,
-                    place,
-                } => {
-                    if who == receiver {
-                        places.retain(|one| *one != place);
-                        agains.push((page.place, place))?;
-                    }
-                }
-                _ => {}
-            }
-        }
-        Ok(places)
-    }
-
-    // Goes to the first record of the first file.
+    /// Goes to the first record of the first file.
     pub fn rewind(&mut self, tail: Tail) -> Result<(), PageFault> {
         let Some(view) = self.view.as_mut() else {
             return self.damaged();
