@@ -5,12 +5,17 @@
 #![tactic(auto)]
 
 mod fault;
+mod finder;
 mod keeping;
 mod made;
+mod next;
 mod pages;
 mod past;
 mod pending;
 mod plans;
+mod sight;
+mod under;
+mod walk;
 
 pub use fault::PageFault;
 pub use keeping::Keeper;

@@ -59,11 +59,17 @@ impl<V: Calls + Drop> Pages<V> {
         self.plan
     }
 
-    fn damaged<T>(&self) -> Result<T, PageFault> {
+    // Where it stands, as a fault.
+    pub(crate) fn damaged<T>(&self) -> Result<T, PageFault> {
         Err(PageFault::Damaged {
             segment: self.segment,
             at: self.at,
         })
+    }
+
+    /// Before any file again.
+    pub(crate) fn leave(&mut self) {
+        self.segment = 0;
     }
 
     // Where the records of a file end.
@@ -161,11 +167,6 @@ impl<V: Calls + Drop> Pages<V> {
             }
         }
         Ok(None)
-    }
-
-    /// The next record's place is one of a plan.
-    pub(crate) fn note_plan(&mut self, place: u64) {
-        self.plan = Some(place);
     }
 
     /// The record at this place.

@@ -8,7 +8,7 @@ use crate::stamps::Utc;
 use gw_ack::Ack;
 use gw_delivery::{Line as Forwarded, PageFault, Pending};
 use gw_folder::FolderView;
-use gw_forward::{Ended, ForwardFault, Outbox, StoreFault, forward};
+use gw_forward::{Ended, ForwardFault, Outbox, OutboxFault, forward};
 use gw_journal::{Naming, Storage};
 use gw_stream::{Reads, RunFault, Writes};
 use std::alloc::AllocError;
@@ -87,6 +87,19 @@ impl<J: Naming, S: Storage + Drop, R: Wait + Clock + Eprint> Forwarded for Here<
         );
     }
 
+    fn unsendable(&self, place: u64, fault: Option<PageFault>) {
+        let name = self.line.name.escape_ascii();
+        let folder = &self.hub.folder.path;
+        let _ = match fault {
+            Some(fault) => eprintln!(self.hub.rt;
+                "receiver {name} isn't sent the message at place {place} of the log in {folder}: {fault}"
+            ),
+            None => eprintln!(self.hub.rt;
+                "receiver {name} isn't sent the message at place {place} of the log in {folder}: no block can have it"
+            ),
+        };
+    }
+
     fn failed(&self, fault: PageFault) {
         let name = self.line.name.escape_ascii();
         let _ = eprintln!(self.hub.rt;
@@ -160,10 +173,9 @@ impl<
                     self.wait();
                 }
                 Err(ForwardFault::Record { .. }) => match outbox.put_aside() {
-                    Ok(true) => {}
-                    Ok(false) => self.wait(),
-                    Err(StoreFault::Memory) => return self.ended_by(ForwardFault::Memory),
-                    Err(StoreFault::Disk) => return self.ended_by(ForwardFault::Disk),
+                    Ok(()) => {}
+                    Err(OutboxFault::Memory) => return self.ended_by(ForwardFault::Memory),
+                    Err(_) => return self.ended_by(ForwardFault::Disk),
                 },
                 Err(fault) => return self.ended_by(fault),
             }
@@ -265,7 +277,7 @@ impl<
 
 /// An outbox of which a record that can't be sent is put aside.
 trait Aside {
-    fn put_aside(&mut self) -> Result<bool, StoreFault>;
+    fn put_aside(&mut self) -> Result<(), OutboxFault>;
 }
 
 impl<
@@ -276,7 +288,7 @@ impl<
     L: Forwarded,
     T: gw_gateway::Times,
 > Aside for Pending<'_, J, S, V, R, L, T> {
-    fn put_aside(&mut self) -> Result<bool, StoreFault> {
+    fn put_aside(&mut self) -> Result<(), OutboxFault> {
         Pending::put_aside(self)
     }
 }
@@ -289,10 +301,9 @@ fn forward_by<
 >(hub: &Hub<'_, J, S, R>, line: &Line) -> bool {
     let alloc = hub.rt.alloc();
     let path = hub.folder.path.as_str();
-    let (Ok(view), Ok(other), Ok(name)) = (
+    let (Ok(view), Ok(other)) = (
         FolderView::beside(hub.rt, path),
         FolderView::beside(hub.rt, path),
-        Vec::from_slice(alloc, &line.name),
     ) else {
         return false;
     };
@@ -314,7 +325,7 @@ fn forward_by<
         &times,
         (view, other),
         line.number,
-        name,
+        &line.name,
         &sent,
     );
     let mut forwarder = Forwarder {
