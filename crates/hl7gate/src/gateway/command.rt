@@ -246,8 +246,11 @@ pub(crate) fn gateway<
     begin_lines(&hub)?;
     let ports = Ports::open(rt, words, &folder)?;
     go_on(&hub, ports, most);
-    match hub.fault() {
-        None => Ok(DONE),
-        Some(fault) => Err(Ended::Run(fault)),
+    let Some(fault) = hub.fault() else {
+        return Ok(DONE);
+    };
+    if fault == RunFault::Write {
+        let _ = eprintln!(rt; "{path}: the log can't be written any more: look at its disk, and whether it is where it was");
     }
+    Err(Ended::Run(fault))
 }

@@ -24,28 +24,17 @@ pub(crate) struct Hub<'f, J: Naming, S: Storage + Drop, R: Wait> {
     pub(crate) plans: Plans,
     pub(crate) lines: Lines,
     pub(crate) watch: Watch,
-    // how many connections are open, and how many there were
-    open: AtomicU64,
-    sessions: AtomicU64,
+    /// How many connections are open, how many there were, and how many messages were accepted since the start.
+    pub(crate) open: AtomicU64,
+    pub(crate) sessions: AtomicU64,
+    pub(crate) accepted: AtomicU64,
     // how many sessions have a turn for a long message, and how many wait for one
     turns: AtomicU64,
     waiting: AtomicU64,
     is_short: AtomicBool,
     is_full: AtomicBool,
-    accepted: AtomicU64,
     has_ended: AtomicBool,
     fault: Mutex<Option<RunFault>>,
-}
-
-/// What a gateway counts since its start.
-#[derive(Clone, Copy)]
-pub(crate) struct Counters {
-    pub(crate) version: u64,
-    pub(crate) open: u64,
-    pub(crate) sessions: u64,
-    pub(crate) accepted: u64,
-    pub(crate) refused: u64,
-    pub(crate) is_short: bool,
 }
 
 impl<'f, J: Naming, S: Storage + Drop, R: Wait> Hub<'f, J, S, R> {
@@ -66,11 +55,11 @@ impl<'f, J: Naming, S: Storage + Drop, R: Wait> Hub<'f, J, S, R> {
             watch: Watch::new(alloc)?,
             open: AtomicU64::new(0),
             sessions: AtomicU64::new(0),
+            accepted: AtomicU64::new(0),
             turns: AtomicU64::new(0),
             waiting: AtomicU64::new(0),
             is_short: AtomicBool::new(false),
             is_full: AtomicBool::new(false),
-            accepted: AtomicU64::new(0),
             has_ended: AtomicBool::new(false),
             fault: Mutex::new(None),
         })
@@ -163,11 +152,6 @@ impl<'f, J: Naming, S: Storage + Drop, R: Wait> Hub<'f, J, S, R> {
         self.waiting.load(Ordering::SeqCst) > 0
     }
 
-    /// Messages were accepted.
-    pub(crate) fn count_accepted(&self, more: u64) {
-        self.accepted.fetch_add(more, Ordering::SeqCst);
-    }
-
     /// How many messages are left for a receiver.
     pub(crate) fn left_for(&self, receiver: u32) -> u64 {
         let office = self.journal.lock(self.rt);
@@ -182,17 +166,5 @@ impl<'f, J: Naming, S: Storage + Drop, R: Wait> Hub<'f, J, S, R> {
     pub(crate) fn tail(&self) -> Tail {
         let (segment, end) = self.journal.lock(self.rt).ledger.tail();
         Tail { segment, end }
-    }
-
-    /// What it counts since its start.
-    pub(crate) fn counters(&self) -> Counters {
-        Counters {
-            version: self.journal.lock(self.rt).current().version,
-            open: self.open.load(Ordering::SeqCst),
-            sessions: self.sessions.load(Ordering::SeqCst),
-            accepted: self.accepted.load(Ordering::SeqCst),
-            refused: self.watch.refused(self.rt),
-            is_short: self.is_short(),
-        }
     }
 }

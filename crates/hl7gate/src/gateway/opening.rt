@@ -24,7 +24,7 @@ pub(crate) struct Opened<K: Summary, D: Disk> {
 }
 
 /// That this was said of the folder at a path.
-fn unlisted<'a, F: Display>(alloc: Global, path: &str, fault: F) -> Ended<'a> {
+fn unlisted<'a, F: Display + Drop>(alloc: Global, path: &str, fault: F) -> Ended<'a> {
     match format!(in alloc; "{path}: {fault}\n{path}: `hl7gate log {path}` says more") {
         Ok(said) => Ended::Unlisted { said },
         Err(_) => Ended::Run(RunFault::Memory),

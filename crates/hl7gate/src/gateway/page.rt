@@ -1,6 +1,6 @@
 //! The page, the metrics and the health of a gateway, over HTTP: one connection at a time, for five seconds at most.
 use crate::ended::Ended;
-use crate::gateway::hub::{Counters, Hub};
+use crate::gateway::hub::Hub;
 use crate::gateway::status::{Shown, all_shown};
 use crate::gateway::watch::Seen;
 use crate::sockets::{listen_briefly, pause};
@@ -17,6 +17,7 @@ use std::net::{Net, Shutdown, TcpListener, TcpStream};
 use std::os::fd::AsRawFd;
 use std::random::RandomSource;
 use std::sync::Wait;
+use std::sync::atomic::Ordering;
 use std::time::{Clock, Duration, Instant};
 
 /// How many seconds a request and its answer may take, and how many the other end has to close its connection.
@@ -110,18 +111,12 @@ fn receivers_of<J: Naming, S: Storage + Drop, R: Wait + Clock + AllocGlobal>(
 }
 
 /// The figures of this moment.
-fn figures_of<J: Naming, S: Storage + Drop, R: Wait + Clock + AllocGlobal>(
+pub(crate) fn figures_of<J: Naming, S: Storage + Drop, R: Wait + Clock + AllocGlobal>(
     hub: &Hub<'_, J, S, R>,
 ) -> Result<Figures, AllocError> {
-    let Counters {
-        version,
-        open,
-        sessions,
-        accepted,
-        is_short,
-        ..
-    } = hub.counters();
-    let entries = hub.journal.lock(hub.rt).ledger.state().next();
+    let office = hub.journal.lock(hub.rt);
+    let (plan, entries) = (office.current().version, office.ledger.state().next());
+    drop(office);
     let Seen {
         refusals,
         codes,
@@ -130,13 +125,13 @@ fn figures_of<J: Naming, S: Storage + Drop, R: Wait + Clock + AllocGlobal>(
     Ok(Figures {
         time: time_in(stamp_of(hub.rt, None).unwrap_or(hub.start).digits()),
         rounds: 0,
-        plan: version,
-        accepted,
+        plan,
+        accepted: hub.accepted.load(Ordering::SeqCst),
         refused,
-        open,
-        sessions,
+        open: hub.open.load(Ordering::SeqCst),
+        sessions: hub.sessions.load(Ordering::SeqCst),
         entries,
-        is_short,
+        is_short: hub.is_short(),
         has_failed: hub.fault().is_some(),
         receivers: receivers_of(hub)?,
         codes,
