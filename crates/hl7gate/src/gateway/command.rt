@@ -2,7 +2,7 @@
 ghost use Rattle.std.specs.Thread.{IsSend, IsSync};
 
 use crate::ended::Ended;
-use crate::gateway::control::{attend_all, control_path};
+use crate::gateway::control::attend_all;
 use crate::gateway::folder::{Folder, Room, refuse_spools};
 use crate::gateway::forwarders::forward_all;
 use crate::gateway::hub::Hub;
@@ -42,35 +42,6 @@ const LOOK: u64 = 25;
 
 /// How many bytes a file of the log has at least before the next is begun.
 const LONG: usize = 67_108_864;
-
-/// Where senders, words and readers of the page come in.
-#[derive(Drop)]
-struct Ports {
-    senders: TcpListener,
-    control: UnixListener,
-    pages: Option<Pages>,
-}
-
-impl Ports {
-    /// Listens at the folder's socket and at the addresses of the words.
-    fn open<'a, R: Runtime + Net<Stream = TcpStream, Listener = TcpListener>>(
-        rt: &R,
-        words: &ArgMatches<'a>,
-        folder: &Folder,
-    ) -> Result<Self, Ended<'a>> {
-        let path = control_path(rt.alloc(), &folder.path)?;
-        let Ok(control) = control::listen(rt, &path) else {
-            return Err(Ended::Unwritten { file: path });
-        };
-        let senders = listen(rt, words)?;
-        let pages = Pages::listen(rt, words)?;
-        Ok(Ports {
-            senders,
-            control,
-            pages,
-        })
-    }
-}
 
 /// Looks whether the disk has room.
 fn look_at_disk<J: Naming, S: Storage + Drop, R: Wait + Clock + Eprint>(hub: &Hub<'_, J, S, R>) {
@@ -120,13 +91,13 @@ fn go_on<
     J: Naming + Send + Sync,
     S: Storage + Drop + Send + Sync,
     R: Runtime + Threads + Wait + Net<Stream = TcpStream, Listener = TcpListener>,
->(hub: &Hub<'_, J, S, R>, ports: Ports, most: u64) {
-    let Ports {
-        senders,
-        control,
-        pages,
-    } = ports;
-    let (control, pages) = (&control, pages.as_ref());
+>(
+    hub: &Hub<'_, J, S, R>,
+    control: &UnixListener,
+    senders: TcpListener,
+    pages: Option<&Pages>,
+    most: u64,
+) {
     listen_briefly(senders.as_raw_fd());
     // (before anything is sent)
     look_at_disk(hub);
@@ -244,8 +215,10 @@ pub(crate) fn gateway<
     let hub = begin(rt, ledger, plan, start, &folder)?;
     print_waiting(&hub);
     begin_lines(&hub)?;
-    let ports = Ports::open(rt, words, &folder)?;
-    go_on(&hub, ports, most);
+    let control = control::listen(rt, path)?;
+    let senders = listen(rt, words)?;
+    let pages = Pages::listen(rt, words)?;
+    go_on(&hub, &control, senders, pages.as_ref(), most);
     let Some(fault) = hub.fault() else {
         return Ok(DONE);
     };

@@ -74,38 +74,28 @@ impl Pages {
     }
 }
 
-/// A receiver's figures.
-fn receiver_of<R: Wait + Clock + AllocGlobal>(
-    rt: &R,
-    shown: &Shown,
-) -> Result<Receiver, AllocError> {
-    let Shown {
-        line,
-        stand,
-        left,
-        ..
-    } = shown;
-    Ok(Receiver {
-        name: line.name.as_slice().to_vec(rt.alloc())?,
-        is_connected: stand.is_connected,
-        is_held: stand.is_held,
-        down: stand.down(rt),
-        waiting: *left,
-        oldest: stand.stuck(rt),
-        sent: stand.sent,
-        aa: stand.aa,
-        ae: stand.ae,
-        ar: stand.ar,
-    })
-}
-
 /// The figures of the receivers.
 fn receivers_of<J: Naming, S: Storage + Drop, R: Wait + Clock + AllocGlobal>(
     hub: &Hub<'_, J, S, R>,
 ) -> Result<Vec<Receiver>, AllocError> {
-    let mut receivers = Vec::new(hub.rt.alloc());
-    for shown in &all_shown(hub)? {
-        receivers.push(receiver_of(hub.rt, shown)?)?;
+    let alloc = hub.rt.alloc();
+    let mut receivers = Vec::new(alloc);
+    for Shown {
+        line, stand, left, ..
+    } in &all_shown(hub)?
+    {
+        receivers.push(Receiver {
+            name: Vec::from_slice(alloc, &line.name)?,
+            is_connected: stand.is_connected,
+            is_held: stand.is_held,
+            down: stand.down(hub.rt),
+            waiting: *left,
+            oldest: stand.stuck(hub.rt),
+            sent: stand.sent,
+            aa: stand.aa,
+            ae: stand.ae,
+            ar: stand.ar,
+        })?;
     }
     Ok(receivers)
 }
