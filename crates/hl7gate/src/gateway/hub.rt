@@ -28,9 +28,10 @@ pub(crate) struct Hub<'f, J: Naming, S: Storage + Drop, R: Wait> {
     pub(crate) open: AtomicU64,
     pub(crate) sessions: AtomicU64,
     pub(crate) accepted: AtomicU64,
-    // how many sessions have a turn for a long message, and how many wait for one
+    // how many sessions have a turn for a long message
     turns: AtomicU64,
-    waiting: AtomicU64,
+    /// How many sessions wait for a turn.
+    pub(crate) waiting: AtomicU64,
     is_short: AtomicBool,
     is_full: AtomicBool,
     has_ended: AtomicBool,
@@ -136,20 +137,6 @@ impl<'f, J: Naming, S: Storage + Drop, R: Wait> Hub<'f, J, S, R> {
     /// A session gives its turn back.
     pub(crate) fn give_turn(&self) {
         self.turns.fetch_sub(1, Ordering::SeqCst);
-    }
-
-    /// A session waits for its turn, or doesn't any more.
-    pub(crate) fn set_waiting(&self, waits: bool) {
-        if waits {
-            self.waiting.fetch_add(1, Ordering::SeqCst);
-        } else {
-            self.waiting.fetch_sub(1, Ordering::SeqCst);
-        }
-    }
-
-    /// Whether a session waits for its turn.
-    pub(crate) fn is_waited_for(&self) -> bool {
-        self.waiting.load(Ordering::SeqCst) > 0
     }
 
     /// How many messages are left for a receiver.

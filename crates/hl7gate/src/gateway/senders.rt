@@ -1,6 +1,6 @@
 //! Sessions: no answer goes out before what it answers is on the disk.
 use crate::gateway::hub::Hub;
-use crate::gateway::overlong::{is_overlong, reject};
+use crate::gateway::overlong::reject;
 use crate::gateway::refusals::{Logged, TURN};
 use crate::gateway::sent::Sent;
 use crate::sockets::{pause, watch};
@@ -58,7 +58,7 @@ fn answer<J: Naming, S: Storage + Drop, R: Wait + AllocGlobal + Clock + Eprint>(
     let mut reader = Reads::new(&mut sent);
     let answered = answer_blocks(alloc, &mut judge, &mut reader, &mut writer);
     sent.give_turn();
-    if is_overlong(&answered) {
+    if let Err(RunFault::Frame(2)) = answered {
         let number = judge.number(alloc);
         reject(hub, sender, sent.beginning(), number)?;
     }
