@@ -3,9 +3,9 @@ ghost use Rattle.std.specs.Prelude.{⊤};
 
 use crate::fault::PutFault;
 use gw_due::laws::Rules;
-use gw_due::{How, Receiver, State};
+use gw_due::Receiver;
 use gw_journal::{Books, Done, Job, JournalFault, Naming, Receipt, Storage, Ticket};
-use gw_ledger::{Found, Ledger, Message, Scan, ScanFault};
+use gw_ledger::Ledger;
 use gw_plan::Plan;
 use std::alloc::{AllocError, Global};
 use std::sync::Arc;
@@ -16,21 +16,6 @@ pub struct InForce {
     pub version: u64,
     pub plan: Arc<Plan>,
     pub numbers: Vec<u32>,
-}
-
-/// The last file of the log that counts, and how many of its bytes do.
-#[derive(Clone, Copy, PartialEq, Eq)]
-pub struct Tail {
-    pub segment: u64,
-    pub end: usize,
-}
-
-/// How a receiver stands in the log: where what is left for it begins, and how many are left and were refused.
-#[derive(Clone, Copy)]
-pub struct Standing {
-    pub from: u64,
-    pub left: u64,
-    pub refused: u64,
 }
 
 /// What a plan changes: the receivers that are new, by their numbers.
@@ -50,7 +35,7 @@ impl Rules for ByPlans {
 /// The ledger of a gateway, and the plan in force.
 #[derive(Drop)]
 pub struct Office<J: Naming, S: Storage + Drop> {
-    ledger: Ledger<J, S, ByPlans>,
+    pub ledger: Ledger<J, S, ByPlans>,
     current: Arc<InForce>,
     taken: u64,
     time: u64,
@@ -108,33 +93,6 @@ impl<J: Naming, S: Storage + Drop> Office<J, S> {
         &self.current
     }
 
-    /// The state of all events that were put.
-    pub fn state(&self) -> &State {
-        self.ledger.state()
-    }
-
-    /// Up to where the log counts.
-    pub fn tail(&self) -> Tail {
-        let (segment, end) = self.ledger.tail();
-        Tail { segment, end }
-    }
-
-    /// Files of a number below this one are needed no more.
-    pub fn keep_from(&mut self, segment: u64) {
-        self.ledger.keep_from(segment);
-    }
-
-    /// How a receiver stands.
-    pub fn standing(&self, receiver: u32) -> Option<Standing> {
-        let receivers = self.ledger.state().receivers();
-        let receiver = receivers.iter().find(|r| r.number() == receiver)?;
-        Some(Standing {
-            from: receiver.from(),
-            left: receiver.left(),
-            refused: receiver.refused(),
-        })
-    }
-
     /// Appends a message that conforms under this plan, for these receivers, and gives its number. `Stale`: another plan is in force.
     pub fn accept(
         &mut self,
@@ -157,47 +115,6 @@ impl<J: Naming, S: Storage + Drop> Office<J, S> {
     pub fn refuse(&mut self, time: u64) -> Result<(u64, Option<Ticket<J>>), PutFault> {
         self.time = time;
         Ok(self.ledger.refuse(time)?)
-    }
-
-    /// Begins to look for what is next for a receiver.
-    pub fn scan(&self, receiver: u32) -> Option<Scan<J>> {
-        self.ledger.scan(receiver)
-    }
-
-    /// Goes over a record that was read of the files.
-    pub fn over(
-        &mut self,
-        scan: &mut Scan<J>,
-        bytes: &[u8],
-    ) -> Result<Option<Found<J>>, ScanFault> {
-        self.ledger.over(scan, bytes)
-    }
-
-    /// A receiver passed what was found for it.
-    pub fn pass(
-        &mut self,
-        time: u64,
-        found: &Found<J>,
-        how: How<'_>,
-    ) -> Result<Ticket<J>, PutFault> {
-        self.time = time;
-        Ok(self.ledger.pass(time, found, how)?)
-    }
-
-    /// The message of a record that was read of the files, at this place.
-    pub fn message(&mut self, place: u64, bytes: &[u8]) -> Result<Option<Message<J>>, ScanFault> {
-        self.ledger.message(place, bytes)
-    }
-
-    /// The message is due to a receiver once more.
-    pub fn again(
-        &mut self,
-        time: u64,
-        receiver: u32,
-        message: &Message<J>,
-    ) -> Result<Ticket<J>, PutFault> {
-        self.time = time;
-        Ok(self.ledger.again(time, receiver, message)?)
     }
 
     // The number of each receiver of a plan. One that has none, or another address, is named.

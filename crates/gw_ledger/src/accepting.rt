@@ -43,6 +43,13 @@ impl<J: Naming> Look<J> {
     {
         self.place
     }
+
+    /// What was seen of the journal.
+    pub fn front(&self) -> &Front<J>
+        ensures { result.now ≡ self.now.history }
+    {
+        &self.front
+    }
 }
 
 impl<J: Naming, S: Storage + Drop, R: Rules> Ledger<J, S, R> {
