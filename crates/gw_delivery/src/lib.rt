@@ -5,12 +5,21 @@
 #![tactic(auto)]
 
 mod fault;
+mod finder;
+mod keeping;
 mod made;
+mod next;
 mod pages;
+mod past;
 mod pending;
 mod plans;
+mod sight;
+mod under;
+mod walk;
 
 pub use fault::PageFault;
-pub use pages::{Pages, Tail};
+pub use keeping::Keeper;
+pub use pages::{Page, Pages, Tail};
+pub use past::{Past, left_from};
 pub use pending::{Line, Pending};
 pub use plans::Plans;

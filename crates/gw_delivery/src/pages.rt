@@ -1,6 +1,6 @@
 //! The log, read on from a place.
 use crate::fault::{PageFault, page_fault};
-use gw_due::{Event, How, ReadFault, State, read};
+use gw_due::{Event, ReadFault, State, read};
 use gw_log::{Calls, Disk, Reader, Recorded, read_head};
 use std::alloc::Global;
 use std::marker::Brand;
@@ -14,9 +14,9 @@ pub struct Tail {
 
 /// A record that was read, and its place.
 #[derive(Drop)]
-pub(crate) struct Page {
-    pub(crate) place: u64,
-    pub(crate) bytes: Vec<u8>,
+pub struct Page {
+    pub place: u64,
+    pub bytes: Vec<u8>,
 }
 
 /// Reads a log's files on, from one record to the next. It needs memory for one record.
@@ -55,15 +55,21 @@ impl<V: Calls + Drop> Pages<V> {
     }
 
     /// Where the plan in force there stands.
-    pub(crate) fn plan(&self) -> Option<u64> {
+    pub fn plan(&self) -> Option<u64> {
         self.plan
     }
 
-    fn damaged<T>(&self) -> Result<T, PageFault> {
+    // Where it stands, as a fault.
+    pub(crate) fn damaged<T>(&self) -> Result<T, PageFault> {
         Err(PageFault::Damaged {
             segment: self.segment,
             at: self.at,
         })
+    }
+
+    /// Before any file again.
+    pub(crate) fn leave(&mut self) {
+        self.segment = 0;
     }
 
     // Where the records of a file end.
@@ -137,7 +143,7 @@ impl<V: Calls + Drop> Pages<V> {
     }
 
     /// The next record. None: it doesn't count yet, or there is none.
-    pub(crate) fn next(&mut self, tail: Tail) -> Result<Option<Page>, PageFault> {
+    pub fn next(&mut self, tail: Tail) -> Result<Option<Page>, PageFault> {
         for _ in 0..u64::MAX {
             if self.segment == 0 {
                 self.seek(tail, 0)?;
@@ -163,11 +169,6 @@ impl<V: Calls + Drop> Pages<V> {
         Ok(None)
     }
 
-    /// The next record's place is one of a plan.
-    pub(crate) fn note_plan(&mut self, place: u64) {
-        self.plan = Some(place);
-    }
-
     /// The record at this place.
     pub fn find(&mut self, tail: Tail, place: u64) -> Result<Vec<u8>, PageFault> {
         if self.segment == 0 || self.place > place {
@@ -188,55 +189,9 @@ impl<V: Calls + Drop> Pages<V> {
         }
         self.damaged()
     }
-}
 
-impl<V: Calls + Drop> Pages<V> {
-    /// The places of the log's files that a receiver refused, and that weren't due to it again since, in order.
-    pub fn refused(&mut self, tail: Tail, receiver: u32) -> Result<Vec<u64>, PageFault> {
-        let mut places: Vec<u64> = Vec::new(self.alloc);
-        // where it was due again, and what
-        let mut agains: Vec<(u64, u64)> = Vec::new(self.alloc);
-        self.rewind(tail)?;
-        for _ in 0..u64::MAX {
-            let Some(page) = self.next(tail)? else {
-                break;
-            };
-            let entry = match read(self.alloc, &page.bytes) {
-                Ok(entry) => entry,
-                Err(ReadFault::Memory) => return Err(PageFault::Memory),
-                Err(ReadFault::Unreadable) => return self.damaged(),
-            };
-            match entry.event {
-                Event::Passed {
-                    receiver: who,
-                    place,
-                    how: How::Refused { .. },
-                } => {
-                    if who == receiver {
-                        let first = match agains.iter().find(|again| again.0 == place) {
-                            Some(again) => again.1,
-                            None => place,
-                        };
-                        places.push(first)?;
-                    }
-                }
-                Event::Again {
-                    receiver: who,
-                    place,
-                } => {
-                    if who == receiver {
-                        places.retain(|one| *one != place);
-                        agains.push((page.place, place))?;
-                    }
-                }
-                _ => {}
-            }
-        }
-        Ok(places)
-    }
-
-    // Goes to the first record of the first file.
-    fn rewind(&mut self, tail: Tail) -> Result<(), PageFault> {
+    /// Goes to the first record of the first file.
+    pub fn rewind(&mut self, tail: Tail) -> Result<(), PageFault> {
         let Some(view) = self.view.as_mut() else {
             return self.damaged();
         };

@@ -1,19 +1,25 @@
 //! What waits for a receiver, as its forwarder takes it.
+ghost use Rattle.std.specs.Prelude.{◌≡◌, IfOk, IsNone, IsTrue, IsFalse, OnOk, OnErr};
+ghost use Rattle.gw_due.specs.Views as view;
+ghost use Rattle.gw_delivery.specs.Waiting as spec;
+ghost use Rattle.gw_delivery.specs.Waiting.{Finds, GoesOn, IsPassed, Passes};
+
 use crate::fault::PageFault;
-use crate::made::made;
-use crate::pages::{Page, Pages, Tail};
+use crate::finder::Finder;
+use crate::next::Next;
+use crate::pages::Tail;
 use crate::plans::Plans;
 use gw_ack::Ack;
-use gw_due::{Event, How, ReadFault, read};
-use gw_forward::{Outbox, StoreFault};
+use gw_due::How;
+use gw_forward::{Outbox, OutboxFault};
 use gw_gateway::{Office, Times};
-use gw_journal::{Journal, JournalFault, Naming, Storage};
-use gw_ledger::{Found, LedgerFault, Scan};
+use gw_journal::{Front, Journal, JournalFault, Naming, Receipt, Storage};
+use gw_ledger::{Found, LedgerFault};
 use gw_log::Calls;
-use gw_plan::Plan;
-use std::alloc::{AllocError, Global};
+use std::alloc::Global;
 use std::cell::Cell;
-use std::sync::{Arc, Wait};
+use std::marker::Model;
+use std::sync::Wait;
 
 /// How often a message that its receiver rejects is sent.
 const TRIES: u64 = 3;
@@ -41,51 +47,127 @@ pub trait Line {
     /// The message at this place isn't sent any more, since the receiver refused it.
     fn refused(&self, place: u64, ack: Ack);
 
+    /// The message at this place isn't sent, since it can't be: for this fault, or since no block can have it.
+    fn unsendable(&self, place: u64, fault: Option<PageFault>);
+
     /// The log can't be read on for this receiver.
     fn failed(&self, fault: PageFault);
-}
-
-/// What is next, as it was found in the log, and what the receiver is sent of it.
-#[derive(Drop)]
-struct Next<J: Naming> {
-    found: Found<J>,
-    bytes: Vec<u8>,
 }
 
 /// What waits for a receiver.
 #[derive(Drop)]
 pub struct Pending<'a, J: Naming, S: Storage + Drop, V: Calls + Drop, R: Wait, L, T> {
-    rt: &'a R,
-    alloc: Global,
-    journal: &'a Journal<J, Office<J, S>>,
-    plans: &'a Plans,
+    finder: Finder<'a, J, S, V, R>,
     line: &'a L,
     times: &'a T,
-    pages: Pages<V>,
-    // for what stands at other places
-    others: Pages<V>,
     receiver: u32,
-    name: Vec<u8>,
-    plan: Option<(u64, Arc<Plan>)>,
-    scan: Option<Scan<J>>,
-    next: Option<Next<J>>,
+    name: &'a [u8],
+    // what was seen of the journal
+    front: Front<J>,
+    // where what is left for it begins
+    from: Option<u64>,
+    next: Option<Next<'a, J>>,
     // whether bytes of what is next may have been sent
     sent: &'a Cell<bool>,
     tries: u64,
     count: u64,
 }
 
-/// What is known under the lock of what is next.
+impl<'a, J: Naming, S: Storage + Drop, V: Calls + Drop, R: Wait, L, T> Model
+    for Pending<'a, J, S, V, R, L, T> {
+    ghost use Rattle.std.specs.Prelude.{IfSome};
+    ghost use Rattle.gw_delivery.specs.Waiting.{IsNextOf, PendingState};
+
+    ghost Value = { PendingState };
+
+    ghost view = { λ p. record {
+      receiver = p.receiver;
+      name = p.name.now;
+      from = p.from;
+      next = p.next;
+      history = p.front;
+      count = p.count;
+    } };
+
+    ghost invariant = { λ p. IfSome p.next (IsNextOf J.before (record {
+      receiver = p.receiver;
+      name = p.name.now;
+      from = p.from;
+      next = p.next;
+      history = p.front;
+      count = p.count;
+    })) };
+}
+
+/// How a receiver stands in the log: how many are left for it, and up to where the log counts.
 #[derive(Clone, Copy)]
-struct Look {
-    from: u64,
+struct Standing {
     left: u64,
     tail: Tail,
 }
 
-impl<'a, J: Naming, S: Storage + Drop, V: Calls + Drop, R: Wait, L: Line, T: Times>
-    Pending<'a, J, S, V, R, L, T>
+// How the receiver of this number stands, if it has a name.
+fn standing_of<J: Naming, S: Storage + Drop>(office: &Office<J, S>, number: u32) -> Option<Standing> {
+    let (segment, end) = office.ledger.tail();
+    for receiver in office.ledger.state().receivers() {
+        if receiver.number() == number {
+            return Some(Standing {
+                left: receiver.left(),
+                tail: Tail { segment, end },
+            });
+        }
+    }
+    None
+}
+
+// Has the receiver pass what was found, and waits until that is on the disk.
+fn passed<J: Naming, S: Storage + Drop, R: Wait>(
+    rt: &R,
+    journal: &Journal<J, Office<J, S>>,
+    time: u64,
+    found: &Found<J>,
+    how: How<'_>,
+) -> Result<Receipt<J>, OutboxFault>
+    ensures { IfOk result (λ r. IsPassed J.before found.now.receiver found.now.place (view.how how.entry) r.history) }
 {
+    let put = journal.lock(rt).ledger.pass(time, found, how);
+    let ticket = match put {
+        Ok(ticket) => ticket,
+        Err(LedgerFault::Journal(JournalFault::Memory)) => return Err(OutboxFault::Memory),
+        Err(_) => return Err(OutboxFault::Disk),
+    };
+    match journal.settle(rt, &ticket) {
+        Ok(receipt) => Ok(receipt),
+        Err(_) => Err(OutboxFault::Disk),
+    }
+}
+
+// How a receiver passes what it acknowledged so.
+fn how(ack: Ack) -> How<'static>
+    ensures { view.how result ≡ spec.how ack }
+{
+    match ack {
+        Ack::AA => How::Taken,
+        Ack::AE => How::Refused {
+            code: 1,
+            reason: b"",
+        },
+        Ack::AR => How::Refused {
+            code: 2,
+            reason: b"",
+        },
+    }
+}
+
+impl<'a, J: Naming, S: Storage + Drop, V: Calls + Drop, R: Wait, L: Line, T: Times> Pending<
+    'a,
+    J,
+    S,
+    V,
+    R,
+    L,
+    T,
+> {
     /// What waits for the receiver of this number and name. Both views are of the log's folder.
     pub fn new(
         rt: &'a R,
@@ -96,23 +178,24 @@ impl<'a, J: Naming, S: Storage + Drop, V: Calls + Drop, R: Wait, L: Line, T: Tim
         times: &'a T,
         views: (V, V),
         receiver: u32,
-        name: Vec<u8>,
+        name: &'a [u8],
         sent: &'a Cell<bool>,
-    ) -> Self {
-        let (view, other) = views;
+    ) -> Self
+        ensures receiver { result.receiver ≡ receiver }
+        ensures name { result.name ≡ name.now }
+        ensures from { IsNone result.from }
+        ensures next { IsNone result.next }
+        ensures count { result.count ≡ 0 }
+    {
+        let front = journal.lock(rt).ledger.front().again();
         Pending {
-            rt,
-            alloc,
-            journal,
-            plans,
+            finder: Finder::new(rt, alloc, journal, plans, views),
             line,
             times,
-            pages: Pages::new(alloc, view),
-            others: Pages::new(alloc, other),
             receiver,
             name,
-            plan: None,
-            scan: None,
+            front,
+            from: None,
             next: None,
             sent,
             tries: 0,
@@ -120,269 +203,207 @@ impl<'a, J: Naming, S: Storage + Drop, V: Calls + Drop, R: Wait, L: Line, T: Tim
         }
     }
 
-    fn look(&self) -> Option<Look> {
-        let office = self.journal.lock(self.rt);
-        let receivers = office.ledger.state().receivers();
-        let receiver = receivers
-            .iter()
-            .find(|r| r.number() == self.receiver)?;
-        let (segment, end) = office.ledger.tail();
-        Some(Look {
-            from: receiver.from(),
-            left: receiver.left(),
-            tail: Tail { segment, end },
-        })
+    fn standing(&self) -> Option<Standing> {
+        let office = self.finder.journal.lock(self.finder.rt);
+        standing_of(&office, self.receiver)
     }
 
-    // The plan that stands at this place.
-    fn plan_at(&mut self, tail: Tail, place: u64) -> Result<Arc<Plan>, PageFault> {
-        if let Some((known, plan)) = &self.plan
-            && *known == place
+    // Keeps what was found, where it is this receiver's, from where what is left for it begins.
+    fn keep(&mut self, next: Next<'a, J>) -> bool
+        requires none { IsNone self.old.next }
+        requires name { next.name ≡ self.old.name }
+        ensures kept { IsTrue result → Finds J.before self.old self.new }
+        ensures same { IsFalse result → self.new ≡ self.old }
+    {
+        if next.found().receiver() != self.receiver {
+            return false;
+        }
+        if let Some(from) = self.from
+            && from != next.found().from()
         {
-            return Ok(plan.clone()?);
+            return false;
         }
-        let bytes = self.others.find(tail, place)?;
-        let plan = self.plan_in(place, &bytes)?;
-        self.plan = Some((place, plan.clone()?));
-        Ok(plan)
-    }
-
-    fn plan_in(&self, place: u64, bytes: &[u8]) -> Result<Arc<Plan>, PageFault> {
-        match read(self.alloc, bytes) {
-            Ok(entry) => match entry.event {
-                Event::Planned { text } => self.plans.of(self.rt, place, text),
-                _ => Err(PageFault::Plan { place }),
-            },
-            Err(ReadFault::Memory) => Err(PageFault::Memory),
-            Err(ReadFault::Unreadable) => Err(PageFault::Plan { place }),
-        }
-    }
-
-    // What the receiver is sent of the message at this place, which was accepted under the plan at that place.
-    fn translated(
-        &mut self,
-        tail: Tail,
-        place: u64,
-        under: Option<u64>,
-        content: &[u8],
-    ) -> Result<Vec<u8>, PageFault> {
-        let Some(under) = under else {
-            return Err(PageFault::Plan { place });
+        let front = if self.front.begins(next.front()) {
+            next.front().again()
+        } else {
+            self.front.again()
         };
-        let plan = self.plan_at(tail, under)?;
-        made(self.alloc, &plan, place, &self.name, content)
+        self.front = front;
+        self.next = Some(next);
+        true
     }
 
-    // What the receiver is sent of the message that stood at another place.
-    fn repeated(&mut self, tail: Tail, place: u64) -> Result<Vec<u8>, PageFault> {
-        let bytes = self.others.find(tail, place)?;
-        let under = self.others.plan();
-        match read(self.alloc, &bytes) {
-            Ok(entry) => match entry.event {
-                Event::Accepted { bytes, .. } => self.translated(tail, place, under, bytes),
-                _ => Err(PageFault::Message { place }),
-            },
-            Err(ReadFault::Memory) => Err(PageFault::Memory),
-            Err(ReadFault::Unreadable) => Err(PageFault::Message { place }),
+    // Reads on to what is next. False: it doesn't count yet.
+    fn read_on(&mut self, tail: Tail) -> Result<bool, OutboxFault>
+        requires { IsNone self.old.next }
+        ensures found { IfOk result (λ found. IsTrue found → Finds J.before self.old self.new) }
+        ensures none { IfOk result (λ found. IsFalse found → self.new ≡ self.old) }
+        ensures err { OnErr result (self.new ≡ self.old) }
+    {
+        match self.finder.find(tail, self.receiver, self.name) {
+            Ok(Some(next)) => {
+                if self.keep(next) {
+                    Ok(true)
+                } else {
+                    Err(OutboxFault::Disk)
+                }
+            }
+            Ok(None) => Ok(false),
+            Err(PageFault::Memory) => Err(OutboxFault::Memory),
+            Err(PageFault::Damaged { segment, at }) => {
+                self.line.failed(PageFault::Damaged { segment, at });
+                Err(OutboxFault::Disk)
+            }
+            Err(_) => Err(OutboxFault::Record),
         }
     }
 
-    // What a record makes due to the receiver.
-    fn due(&mut self, look: Look, page: &Page) -> Result<Option<Vec<u8>>, PageFault> {
-        let place = page.place;
-        let tail = look.tail;
-        let entry = match read(self.alloc, &page.bytes) {
-            Ok(entry) => entry,
-            Err(ReadFault::Memory) => return Err(PageFault::Memory),
-            Err(ReadFault::Unreadable) => {
-                return Err(PageFault::Message { place });
-            }
+    // Whether what is next is known.
+    fn is_ready(&mut self) -> Result<bool, OutboxFault>
+        ensures found { IfOk result (λ found. IsTrue found → Finds J.before self.old self.new) }
+        ensures none { IfOk result (λ found. IsFalse found → self.new ≡ self.old) }
+        ensures err { OnErr result (self.new ≡ self.old) }
+    {
+        if self.next.is_some() {
+            return Ok(true);
+        }
+        if self.finder.aside.is_some() {
+            return Err(OutboxFault::Record);
+        }
+        let Some(standing) = self.standing() else {
+            return Ok(false);
         };
-        match entry.event {
-            Event::Planned { text } => {
-                self.pages.note_plan(place);
-                let plan = self.plans.of(self.rt, place, text)?;
-                self.plan = Some((place, plan));
-                Ok(None)
-            }
-            // (what stands before was passed)
-            _ if place < look.from => Ok(None),
-            Event::Accepted { to, bytes, .. } => {
-                if !to.contains(&self.receiver) {
-                    return Ok(None);
-                }
-                let under = self.pages.plan();
-                Ok(Some(self.translated(tail, place, under, bytes)?))
-            }
-            Event::Again { receiver, place } => {
-                if receiver != self.receiver {
-                    return Ok(None);
-                }
-                Ok(Some(self.repeated(tail, place)?))
-            }
-            _ => Ok(None),
+        self.line.stands(standing.left, false);
+        if standing.left == 0 {
+            return Ok(false);
+        }
+        self.read_on(standing.tail)
+    }
+
+    // Goes on behind this place, by the receipt for its pass. False: the receipt is of an earlier moment.
+    fn go_on(&mut self, place: u64, receipt: &Receipt<J>) -> bool
+        ensures on { IsTrue result → GoesOn self.old self.new place receipt.now.history }
+        ensures same { IsFalse result → self.new ≡ self.old }
+    {
+        if place == u64::MAX || self.count == u64::MAX || !self.front.begins(receipt.front()) {
+            return false;
+        }
+        self.front = receipt.front().again();
+        self.from = Some(place + 1);
+        self.next = None;
+        self.count += 1;
+        self.finder.aside = None;
+        self.tries = 0;
+        self.sent.set(false);
+        true
+    }
+
+    // How many are left is shown.
+    fn show(&self) {
+        if let Some(standing) = self.standing() {
+            self.line.stands(standing.left, true);
         }
     }
 
-    // Begins to look for what is next, where that isn't done yet.
-    fn begin(&mut self, look: Look) -> Result<(), PageFault> {
-        if self.scan.is_none() {
-            self.scan = self.journal.lock(self.rt).ledger.scan(self.receiver);
-            if self.pages.segment() == 0 || self.pages.place() > look.from {
-                self.pages.seek(look.tail, look.from)?;
-            }
+    // The receiver passes what is next. Its place.
+    fn pass(&mut self, how: How<'_>) -> Result<u64, OutboxFault>
+        ensures ok { OnOk result (Passes J.before self.old self.new (view.how how.entry)) }
+        ensures err { OnErr result (self.new ≡ self.old) }
+    {
+        let Some(next) = &self.next else {
+            return Err(OutboxFault::Record);
+        };
+        let (time, place) = (self.times.time(), next.found().place());
+        let (rt, journal) = (self.finder.rt, self.finder.journal);
+        let receipt = passed(rt, journal, time, next.found(), how)?;
+        if !self.go_on(place, &receipt) {
+            return Err(OutboxFault::Disk);
         }
+        self.show();
+        Ok(place)
+    }
+
+    // What is next, but can't be made, is passed as refused.
+    fn pass_unmade(&mut self) -> Result<(), OutboxFault>
+        ensures err { OnErr result (self.new ≡ self.old) }
+    {
+        let Some((found, fault)) = &self.finder.aside else {
+            return Err(OutboxFault::Record);
+        };
+        let (time, place, fault) = (self.times.time(), found.place(), *fault);
+        let (rt, journal) = (self.finder.rt, self.finder.journal);
+        let receipt = passed(rt, journal, time, found, how(Ack::AR))?;
+        if !self.go_on(place, &receipt) {
+            return Err(OutboxFault::Disk);
+        }
+        self.show();
+        self.line.unsendable(place, Some(fault));
         Ok(())
     }
 
-    // Goes over a record that was read: whether it is what is next.
-    fn over(&mut self, page: &Page) -> Result<Option<Found<J>>, PageFault> {
-        let Some(scan) = self.scan.as_mut() else {
-            return Ok(None);
-        };
-        // (what stands before was passed)
-        if page.place < scan.at() {
-            return Ok(None);
+    /// What is next can't be made, or can't be sent: it is passed as refused.
+    pub fn put_aside(&mut self) -> Result<(), OutboxFault>
+        ensures err { OnErr result (self.new ≡ self.old) }
+    {
+        if self.next.is_none() {
+            return self.pass_unmade();
         }
-        let found = self.journal.lock(self.rt).ledger.over(scan, &page.bytes)?;
-        Ok(found)
-    }
-
-    // Reads on to what is next. None: it doesn't count yet.
-    fn read_on(&mut self, look: Look) -> Result<Option<Next<J>>, PageFault> {
-        self.begin(look)?;
-        for _ in 0..u64::MAX {
-            let Some(page) = self.pages.next(look.tail)? else {
-                return Ok(None);
-            };
-            let bytes = self.due(look, &page)?;
-            if let Some(found) = self.over(&page)? {
-                self.scan = None;
-                return match bytes {
-                    Some(bytes) => Ok(Some(Next { found, bytes })),
-                    None => Err(PageFault::Message { place: page.place }),
-                };
-            }
-        }
-        Ok(None)
-    }
-
-    // The bytes of what was found.
-    fn bytes(&self) -> Result<Option<Vec<u8>>, AllocError> {
-        match &self.next {
-            Some(next) => Ok(Some(Vec::from_slice(self.alloc, &next.bytes)?)),
-            None => Ok(None),
-        }
-    }
-
-    // The receiver is done with what was found.
-    fn pass(&mut self, how: How<'_>) -> Result<bool, StoreFault> {
-        let Some(next) = &self.next else {
-            return Ok(true);
-        };
-        let time = self.times.time();
-        let put = self.journal.lock(self.rt).ledger.pass(time, &next.found, how);
-        let ticket = match put {
-            Ok(ticket) => ticket,
-            Err(LedgerFault::Journal(JournalFault::Memory)) => return Err(StoreFault::Memory),
-            Err(_) => return Err(StoreFault::Disk),
-        };
-        if self.journal.settle(self.rt, &ticket).is_err() {
-            return Err(StoreFault::Disk);
-        }
-        self.next = None;
-        self.sent.set(false);
-        self.tries = 0;
-        self.count = self.count.saturating_add(1);
-        if let Some(look) = self.look() {
-            self.line.stands(look.left, true);
-        }
-        Ok(true)
-    }
-
-    // The receiver refuses what was found.
-    fn refuse(&mut self, ack: Ack) -> Result<bool, StoreFault> {
-        let place = match &self.next {
-            Some(next) => next.found.place(),
-            None => 0,
-        };
-        let done = self.pass(How::Refused {
-            code: if ack == Ack::AE { 1 } else { 2 },
-            reason: b"",
-        })?;
-        self.line.refused(place, ack);
-        Ok(done)
-    }
-
-    /// What was found can't be sent: it is passed as refused.
-    pub fn put_aside(&mut self) -> Result<bool, StoreFault> {
-        self.refuse(Ack::AR)
+        let place = self.pass(how(Ack::AR))?;
+        self.line.unsendable(place, None);
+        Ok(())
     }
 }
 
 impl<J: Naming, S: Storage + Drop, V: Calls + Drop, R: Wait, L: Line, T: Times> Outbox
-    for Pending<'_, J, S, V, R, L, T>
-{
-    ghost taken = { λ _. None };
+    for Pending<'_, J, S, V, R, L, T> {
+    ghost use Rattle.std.specs.Prelude.{◌≡◌, ◌⊎◌};
+    ghost use Rattle.gw_delivery.specs.Waiting.{Finds, Gives, Settles};
 
-    ghost count = { λ e. e.count };
+    ghost count = { λ p. p.count };
+
+    ghost gives = { λ old new bytes. Gives J.before old new bytes };
+
+    ghost closes = { λ old new. new ≡ old };
+
+    ghost breaks = { λ old new fault. (new ≡ old) ⊎ Finds J.before old new };
+
+    ghost settles = { λ old new ack taken. Settles J.before old new ack taken };
+
+    ghost fails = { λ old new ack fault. new ≡ old };
 
     fn count(&self) -> u64 {
         self.count
     }
 
-    fn next(&mut self) -> Result<Option<Vec<u8>>, StoreFault> {
-        for _ in self.rt.forever() {
+    fn next(&mut self) -> Result<Option<Vec<u8>>, OutboxFault> {
+        for _ in self.finder.rt.forever() {
             if self.line.has_ended() {
                 return Ok(None);
             }
-            if self.line.is_held() {
-                self.line.wait();
-                continue;
-            }
-            if self.next.is_some() {
-                return Ok(self.bytes()?);
-            }
-            let Some(look) = self.look() else {
-                self.line.wait();
-                continue;
-            };
-            self.line.stands(look.left, false);
-            if look.left > 0 {
-                match self.read_on(look) {
-                    Ok(Some(next)) => {
-                        self.next = Some(next);
-                        continue;
-                    }
-                    Ok(None) => {}
-                    Err(PageFault::Memory) => return Err(StoreFault::Memory),
-                    Err(fault) => {
-                        self.line.failed(fault);
-                        return Err(StoreFault::Disk);
-                    }
-                }
+            if !self.line.is_held() && self.is_ready()? {
+                return match &self.next {
+                    Some(next) => Ok(Some(next.bytes(self.finder.alloc)?)),
+                    None => unreachable!(),
+                };
             }
             self.line.wait();
         }
         unreachable!()
     }
 
-    fn settle(&mut self, _bytes: &[u8], ack: Ack) -> Result<bool, StoreFault> {
+    fn settle(&mut self, ack: Ack) -> Result<bool, OutboxFault> {
         self.line.count(ack);
-        match ack {
-            Ack::AA => {
-                let done = self.pass(How::Taken)?;
-                self.line.taken();
-                Ok(done)
-            }
-            Ack::AE => self.refuse(ack),
-            Ack::AR => {
-                self.tries = self.tries.saturating_add(1);
-                if self.tries >= TRIES {
-                    return self.refuse(ack);
-                }
-                Ok(false)
+        if ack == Ack::AR {
+            self.tries = self.tries.saturating_add(1);
+            if self.tries < TRIES {
+                return Ok(false);
             }
         }
+        let place = self.pass(how(ack))?;
+        match ack {
+            Ack::AA => self.line.taken(),
+            _ => self.line.refused(place, ack),
+        }
+        Ok(true)
     }
 }

@@ -31,11 +31,6 @@ const STAMP: &[(&str, &str, &str)] = &[(
 /// The options of `gateway`.
 const ON_GATEWAY: &[(&str, &str, &str)] = &[
     (
-        "workers",
-        "N",
-        "How many threads translate, from 1 to 1000 [default: 4]",
-    ),
-    (
         "connections",
         "N",
         "How many connections are open at once, from 1 to 1000 [default: 1000]",
@@ -44,6 +39,16 @@ const ON_GATEWAY: &[(&str, &str, &str)] = &[
         "status",
         "ADDRESS",
         "The address of a page, metrics and health over HTTP; without a host it is on this machine alone [default: none]",
+    ),
+    (
+        "take-plan",
+        "",
+        "Takes PLAN where another plan is in force in FOLDER",
+    ),
+    (
+        "keep-plan",
+        "",
+        "Goes on with the plan in force in FOLDER where PLAN is another",
     ),
 ];
 

@@ -25,8 +25,6 @@ pub(crate) enum Ended<'a> {
     Taken { path: &'a str },
     /// No gateway answers in the folder.
     Unanswered { path: &'a str },
-    /// The file of a spool is damaged at this byte.
-    Damaged { file: String, at: usize },
     /// The log of a folder can't be read, or is damaged; this is printed.
     Unlisted { said: String },
     /// Standard input isn't a message.

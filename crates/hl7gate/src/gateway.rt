@@ -2,7 +2,6 @@
 //!
 //! Its log is its journal. A sender's message is appended to it, and answered once it is on the disk. For each receiver a forwarder reads the log on,
 //! and sends what the plan of each message makes of it, over connections that it makes anew.
-mod clock;
 mod command;
 mod control;
 mod folder;
@@ -11,20 +10,16 @@ mod hub;
 mod late;
 mod lines;
 mod links;
-mod lobby;
 mod opening;
 mod overlong;
 mod page;
 mod plans;
 mod refusals;
 mod resend;
-mod retention;
 mod senders;
 mod sent;
 mod status;
-mod tally;
-mod tell;
 mod watch;
 
 pub(crate) use command::gateway;
-pub(crate) use tell::send;
+pub(crate) use control::control_path;

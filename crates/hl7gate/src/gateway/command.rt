@@ -2,26 +2,22 @@
 ghost use Rattle.std.specs.Thread.{IsSend, IsSync};
 
 use crate::ended::Ended;
-use crate::gateway::clock::microseconds;
-use crate::gateway::control;
 use crate::gateway::control::{attend_all, control_path};
-use crate::gateway::folder::{Folder, Room};
+use crate::gateway::folder::{Folder, Room, refuse_spools};
 use crate::gateway::forwarders::forward_all;
 use crate::gateway::hub::Hub;
-use crate::gateway::late::look_at_all;
-use crate::gateway::lobby::{Guest, Sender};
-use crate::gateway::opening;
-use crate::gateway::opening::Opened as Log;
+use crate::gateway::late::{look_at_all, look_at_files};
+use crate::gateway::opening::{Opened as Log, plan_of};
 use crate::gateway::page::{Pages, show_all};
-use crate::gateway::plans::{begin_lines, take};
-use crate::gateway::retention::look_at_files;
-use crate::gateway::senders::{accept_all, attend};
+use crate::gateway::plans::begin_lines;
+use crate::gateway::senders::{attend, next_sender};
+use crate::gateway::{control, opening};
 use crate::plans::read_plan;
 use crate::report::DONE;
 use crate::runtime::Runtime;
 use crate::serve::count_or;
-use crate::sockets::listen;
-use crate::stamps::stamp_of;
+use crate::sockets::{listen, listen_briefly};
+use crate::stamps::{microseconds, stamp_of};
 use clap::ArgMatches;
 use gw_ack::Stamp;
 use gw_gateway::{ByPlans, Office, PutFault};
@@ -30,9 +26,9 @@ use gw_ledger::{Checkpoints, Ledger};
 use gw_plan::Plan;
 use gw_stream::RunFault;
 use std::io::Eprint;
-use std::marker::Brand;
-use std::net::{Net, SocketAddr, TcpListener, TcpStream};
-use std::os::unix::net::{UnixListener, UnixStream};
+use std::net::{Net, TcpListener, TcpStream};
+use std::os::fd::AsRawFd;
+use std::os::unix::net::UnixListener;
 use std::sync::{Arc, Wait};
 use std::thread;
 use std::thread::Threads;
@@ -89,22 +85,27 @@ fn look_at_disk<J: Naming, S: Storage + Drop, R: Wait + Clock + Eprint>(hub: &Hu
         } else {
             eprintln!(hub.rt; "the disk has room again: messages are taken")
         };
-        hub.set_short(is_short);
     }
     let is_full = room == Room::Nothing;
     if is_full && !hub.is_full() {
         let _ = eprintln!(hub.rt; "the disk is full: nothing is sent until there is some room");
     }
-    // (also for receivers that are new)
-    hub.set_full(is_full);
+    hub.set_room(is_short, is_full);
+    if hub.folder.turn_long() {
+        let _ = eprintln!(hub.rt;
+            "{}/refusals.log has 64 MB: no line is added until it is cut",
+            hub.folder.path
+        );
+    }
 }
 
 /// Looks from time to time whether the disk has room, which receivers are late, and which files nobody needs, until the gateway ends.
 fn watch_all<J: Naming, S: Storage + Drop, R: Runtime + Wait>(hub: &Hub<'_, J, S, R>) {
+    let mut keeper = None;
     for _ in hub.rt.forever() {
         look_at_disk(hub);
         look_at_all(hub);
-        look_at_files(hub);
+        keeper = look_at_files(hub, keeper);
         for _fifth in 0..LOOK {
             if hub.has_ended() {
                 return;
@@ -114,38 +115,19 @@ fn watch_all<J: Naming, S: Storage + Drop, R: Runtime + Wait>(hub: &Hub<'_, J, S
     }
 }
 
-/// Turns a sender away, for whom there is no thread.
-fn turn_away<J: Naming, S: Storage + Drop, R: Wait + Eprint>(
-    hub: &Hub<'_, J, S, R>,
-    sender: Sender,
-) {
-    let number = sender.number;
-    drop(sender);
-    let _ = eprintln!(hub.rt; "session {number} ended: no thread can be started for it");
-    hub.lobby.leave(hub.rt);
-}
-
 /// Goes on until it is stopped, or can't go on. Each sender and each receiver has a thread.
 fn go_on<
     J: Naming + Send + Sync,
     S: Storage + Drop + Send + Sync,
     R: Runtime + Threads + Wait + Net<Stream = TcpStream, Listener = TcpListener>,
->(
-    hub: &Hub<'_, J, S, R>,
-    ports: Ports,
-    most: u64,
-) {
+>(hub: &Hub<'_, J, S, R>, ports: Ports, most: u64) {
     let Ports {
         senders,
         control,
         pages,
     } = ports;
-    let at = senders.local_addr().ok();
-    let page = match &pages {
-        Some(pages) => pages.address(),
-        None => None,
-    };
     let (control, pages) = (&control, pages.as_ref());
+    listen_briefly(senders.as_raw_fd());
     // (before anything is sent)
     look_at_disk(hub);
     thread::scope(
@@ -163,104 +145,83 @@ fn go_on<
             let show = move ||
                 requires { IsSend S.row × IsSync S.row × IsSync R.row }
             { show_all(hub, pages) };
-            let accept = move ||
-                requires { IsSend S.row × IsSync S.row × IsSync R.row }
-            { accept_all(hub, senders, most) };
             let has_all = scope.spawn(look).is_ok()
                 && scope.spawn(hear).is_ok()
-                && scope.spawn(show).is_ok()
-                && scope.spawn(accept).is_ok();
+                && scope.spawn(show).is_ok();
             if !has_all {
                 hub.fail(RunFault::Memory);
             }
             for _ in hub.rt.forever() {
-                match hub.lobby.next(hub.rt, Duration::from_millis(100)) {
-                    Some(Guest::Sender(sender)) => {
-                        let attend_one = move ||
-                            requires { IsSend S.row × IsSync S.row × IsSync R.row }
-                        { attend(hub, sender) };
-                        if scope.spawn(attend_one).is_err() {
-                            let _ = eprintln!(hub.rt; "no thread can be started for a connection");
-                            hub.lobby.leave(hub.rt);
-                        }
+                if hub.has_ended() {
+                    break;
+                }
+                if let Some(line) = hub.lines.next_new(hub.rt) {
+                    let send = move ||
+                        requires { IsSend S.row × IsSync S.row × IsSync R.row }
+                    { forward_all(hub, line) };
+                    if scope.spawn(send).is_err() {
+                        hub.fail(RunFault::Memory);
                     }
-                    Some(Guest::Line(line)) => {
-                        let send = move ||
-                            requires { IsSend S.row × IsSync S.row × IsSync R.row }
-                        { forward_all(hub, line) };
-                        if scope.spawn(send).is_err() {
-                            hub.fail(RunFault::Memory);
-                        }
-                    }
-                    None => {
-                        if hub.has_ended() {
-                            break;
-                        }
+                    continue;
+                }
+                if let Some(sender) = next_sender(hub, &senders, most) {
+                    let attend_one = move ||
+                        requires { IsSend S.row × IsSync S.row × IsSync R.row }
+                    { attend(hub, sender) };
+                    if scope.spawn(attend_one).is_err() {
+                        let _ = eprintln!(hub.rt;
+                            "no thread can be started for a connection: it is closed"
+                        );
+                        hub.leave();
                     }
                 }
             }
-            hub.lines.end(hub.rt);
-            wake_control(hub.rt, &hub.folder.path);
-            wake(hub.rt, at);
-            wake(hub.rt, page);
+            // (who connects from here on is refused)
+            drop(senders);
         },
     );
 }
 
-/// Wakes the thread that hears words.
-fn wake_control<R: Net + AllocGlobal>(rt: &R, folder: &str) {
-    if let Ok(path) = control_path(rt.alloc(), folder) {
-        let _ = UnixStream::connect(rt, path.as_str());
-    }
-}
-
-/// Wakes the thread that accepts connections at an address.
-fn wake<R: Net<Stream = TcpStream, Listener = TcpListener>>(rt: &R, at: Option<SocketAddr>) {
-    if let Some(at) = at {
-        let _ = TcpStream::connect_timeout(rt, &at, Duration::from_secs(1));
-    }
-}
-
-/// Keeps what it accepts in this log, under a plan.
-fn keep<
-    'a,
-    J: Naming + Send + Sync,
-    S: Storage + Drop + Send + Sync,
-    R: Runtime + Threads + Wait + Net<Stream = TcpStream, Listener = TcpListener>,
->(
-    rt: &R,
-    words: &ArgMatches<'a>,
-    folder: &Folder,
-    office: Office<J, S>,
-    plan: Arc<Plan>,
-    start: Stamp,
-    most: u64,
-) -> Result<Option<RunFault>, Ended<'a>> {
-    let journal = Journal::new(rt.alloc(), office);
-    let hub = Hub::new(rt, rt.alloc(), start, folder, journal)?;
-    print_waiting(&hub);
-    match take(&hub, plan) {
-        Ok(_version) => {}
-        Err(PutFault::Memory) => return Err(Ended::Run(RunFault::Memory)),
-        Err(_) => return Err(Ended::Run(RunFault::Write)),
-    }
-    begin_lines(&hub)?;
-    let ports = Ports::open(rt, words, folder)?;
-    go_on(&hub, ports, most);
-    Ok(hub.fault())
-}
-
-/// Reports what waits from before the start.
+/// What is counted of receivers before the start is printed: what waits, and what was refused.
 fn print_waiting<J: Naming, S: Storage + Drop, R: Wait + Eprint>(hub: &Hub<'_, J, S, R>) {
     let office = hub.journal.lock(hub.rt);
-    for receiver in office.state().receivers() {
-        if receiver.left() > 0 {
-            let (name, left) = (receiver.name().escape_ascii(), receiver.left());
+    for receiver in office.ledger.state().receivers() {
+        let (left, refused) = (receiver.left(), receiver.refused());
+        if left > 0 {
+            let name = receiver.name().escape_ascii();
             let _ = eprintln!(hub.rt;
-                "receiver {name}: {left} messages wait in {}", hub.folder.path
+                "receiver {name}: {left} messages wait in {}",
+                hub.folder.path
             );
         }
+        if refused > 0 {
+            let name = receiver.name().escape_ascii();
+            let _ = eprintln!(hub.rt; "receiver {name} has refused {refused} messages so far");
+        }
     }
+}
+
+/// What the threads share, once the plan is in force, and on the disk.
+fn begin<'f, J: Naming, S: Storage + Drop, R: Runtime + Wait>(
+    rt: &'f R,
+    ledger: Ledger<J, S, ByPlans>,
+    plan: Arc<Plan>,
+    start: Stamp,
+    folder: &'f Folder,
+) -> Result<Hub<'f, J, S, R>, RunFault> {
+    let alloc = rt.alloc();
+    let mut office = Office::new(alloc, ledger, plan.clone()?)?;
+    let ticket = match office.take_plan(alloc, microseconds(rt), plan.clone()?) {
+        Ok((_change, ticket)) => ticket,
+        Err(PutFault::Memory) => return Err(RunFault::Memory),
+        Err(_) => return Err(RunFault::Write),
+    };
+    let hub = Hub::new(rt, alloc, start, folder, Journal::new(alloc, office))?;
+    if hub.journal.settle(rt, &ticket).is_err() {
+        return Err(RunFault::Write);
+    }
+    hub.plans.keep(rt, plan)?;
+    Ok(hub)
 }
 
 /// Keeps what it accepts in FOLDER, under the plan of the file PLAN, at ADDRESS, and answers the status.
@@ -273,14 +234,23 @@ pub(crate) fn gateway<
     let Some(start) = stamp_of(rt, None) else {
         return Err(Ended::Stamp);
     };
-    let plan = Arc::new(rt.alloc(), read_plan(rt, words)?)?;
+    let plan = read_plan(rt, words)?;
     let path = words.get_str("FOLDER").unwrap_or("");
+    refuse_spools(rt, path)?;
     let Log { stored, state } = opening::open::<Checkpoints, R>(rt, path)?;
+    let plan = plan_of(rt, words, plan, &state, stored.tail())?;
     let folder = Folder::open(rt, path)?;
     let ledger = Ledger::<J, _, ByPlans>::open(rt.alloc(), Opened::new(), stored, state, LONG);
-    let office = Office::new(rt.alloc(), ledger, plan.clone()?)?;
-    match keep(rt, words, &folder, office, plan, start, most)? {
-        None => Ok(DONE),
-        Some(fault) => Err(Ended::Run(fault)),
+    let hub = begin(rt, ledger, plan, start, &folder)?;
+    print_waiting(&hub);
+    begin_lines(&hub)?;
+    let ports = Ports::open(rt, words, &folder)?;
+    go_on(&hub, ports, most);
+    let Some(fault) = hub.fault() else {
+        return Ok(DONE);
+    };
+    if fault == RunFault::Write {
+        let _ = eprintln!(rt; "{path}: the log can't be written any more: look at its disk, and whether it is where it was");
     }
+    Err(Ended::Run(fault))
 }

@@ -2,13 +2,15 @@
 use crate::gateway::hub::Hub;
 use crate::gateway::plans::take_file;
 use crate::gateway::resend::resend;
-use crate::gateway::status;
+use crate::gateway::status::state;
 use crate::runtime::Runtime;
+use crate::sockets::{listen_briefly, pause};
 use gw_journal::{Naming, Storage};
 use std::alloc::{AllocError, Global};
 use std::fs::{File, Permissions};
 use std::io::{ErrorKind, Read, Write};
 use std::net::Net;
+use std::os::fd::AsRawFd;
 use std::os::unix::fs::PermissionsExt;
 use std::os::unix::net::{UnixListener, UnixStream};
 use std::rt::Files;
@@ -42,21 +44,26 @@ pub(crate) fn listen<R: Files<File = File> + Net>(rt: &R, path: &str) -> io::Res
     Ok(listener)
 }
 
-/// Holds a receiver's messages back, or sends them on.
-fn hold<J: Naming, S: Storage + Drop, R: Wait + AllocGlobal>(
+/// Holds a receiver's messages back, or sends them on, or what it refused once more.
+fn tell_line<J: Naming, S: Storage + Drop, R: Runtime + Wait>(
     hub: &Hub<'_, J, S, R>,
+    word: &str,
     name: &str,
-    is_held: bool,
 ) -> Result<String, AllocError> {
     let alloc = hub.rt.alloc();
     let Some(line) = hub.lines.named(hub.rt, name.as_bytes()) else {
         return format!(in alloc; "refused: no receiver of the plan has this name\n");
     };
-    line.hold(hub.rt, is_held);
-    if is_held {
-        format!(in alloc; "held: {name} is sent nothing until `go {name}`, or a restart\n")
-    } else {
-        format!(in alloc; "goes: {name} is sent what waits\n")
+    match word {
+        "resend" => resend(hub, &line),
+        "hold" => {
+            line.hold(hub.rt, true);
+            format!(in alloc; "held: {name} is sent nothing until `go {name}`, or a restart\n")
+        }
+        _ => {
+            line.hold(hub.rt, false);
+            format!(in alloc; "goes: {name} is sent what waits\n")
+        }
     }
 }
 
@@ -68,15 +75,15 @@ fn answer<J: Naming, S: Storage + Drop, R: Runtime + Wait>(
     let alloc = hub.rt.alloc();
     let (word, rest) = line.split_once(' ').unwrap_or((line, ""));
     match (word, rest) {
-        ("status", "") => status::text(hub),
-        ("status", "--json") => status::json(hub),
+        ("status", "") => state(hub, false),
+        ("status", "--json") => state(hub, true),
+        ("install", path) if !path.is_empty() => take_file(hub, path, true),
+        ("swap", path) if !path.is_empty() => take_file(hub, path, false),
         ("stop", "") => {
             hub.stop();
             format!(in alloc; "stops: what waits is sent by the next start\n")
         }
-        ("hold", name) if !name.is_empty() => hold(hub, name, true),
-        ("go", name) if !name.is_empty() => hold(hub, name, false),
-        ("resend", name) if !name.is_empty() => resend(hub, name),
+        ("hold" | "go" | "resend", name) if !name.is_empty() => tell_line(hub, word, name),
         _ => format!(in alloc; "refused: the words are: {WORDS}\n"),
     }
 }
@@ -99,15 +106,8 @@ fn attend<J: Naming, S: Storage + Drop, R: Runtime + Wait>(
     stream.set_read_timeout(Some(Duration::from_secs(PATIENCE)))?;
     stream.set_write_timeout(Some(Duration::from_secs(PATIENCE)))?;
     let line = read_line(hub.rt, &stream)?;
-    let line = line.trim_end();
     let mut writer = stream;
-    if let Some(path) = line.strip_prefix("install ") {
-        return writer.write_all(&take_file(hub, path, true)?);
-    }
-    if let Some(path) = line.strip_prefix("swap ") {
-        return writer.write_all(&take_file(hub, path, false)?);
-    }
-    let text = answer(hub, line)?;
+    let text = answer(hub, line.trim_end())?;
     writer.write_all(text.as_bytes())
 }
 
@@ -116,9 +116,14 @@ pub(crate) fn attend_all<J: Naming, S: Storage + Drop, R: Runtime + Wait>(
     hub: &Hub<'_, J, S, R>,
     listener: &UnixListener,
 ) {
+    listen_briefly(listener.as_raw_fd());
     for _ in hub.rt.forever() {
-        if let Ok((stream, _peer)) = listener.accept() {
-            let _ = attend(hub, stream);
+        match listener.accept() {
+            Ok((stream, _peer)) => {
+                let _ = attend(hub, stream);
+            }
+            Err(error) if error.kind() == ErrorKind::WouldBlock => {}
+            Err(_) => pause(hub.rt),
         }
         if hub.has_ended() {
             return;

@@ -6,12 +6,16 @@ use std::fs::{File, OpenOptions, metadata};
 use std::io::ErrorKind;
 use std::os::unix::fs::{FileExt, OpenOptionsExt};
 use std::rt::Files;
+use std::sync::atomic::{AtomicBool, Ordering};
 use std::{fs, io};
 
 /// How many bytes of the disk are kept free for what was accepted.
 const RESERVE: u64 = 67_108_864;
 
-/// How many of them are written at once.
+/// How many bytes the log of refusals has at most, or hardly more.
+const LONG: u64 = 67_108_864;
+
+/// How many bytes are written at once.
 const PIECE: u64 = 65_536;
 
 /// What the folder's page says.
@@ -31,8 +35,9 @@ These files hold patients' data. Copy or move them only while no gateway works h
 #[derive(Drop)]
 pub(crate) struct Folder {
     pub(crate) path: String,
-    pub(crate) reserve: File,
-    pub(crate) log: File,
+    reserve: File,
+    log: File,
+    is_log_long: AtomicBool,
 }
 
 /// What came of a call on a file of the folder, or that the file can't be made or written.
@@ -96,10 +101,19 @@ fn fill(file: &File) -> Room {
     }
 }
 
-/// Whether a folder is one of an earlier gateway, which kept a spool for each receiver.
-fn has_spools<R: Files<File = File> + AllocGlobal>(rt: &R, path: &str) -> io::Result<bool> {
+/// Refuses a folder of an earlier gateway, which kept a spool for each receiver.
+pub(crate) fn refuse_spools<'a, R: Files<File = File> + AllocGlobal>(
+    rt: &R,
+    path: &str,
+) -> Result<(), Ended<'a>> {
     let spools = format!(in rt.alloc(); "{path}/spool")?;
-    Ok(metadata(rt, spools.as_str()).is_ok())
+    if metadata(rt, spools.as_str()).is_err() {
+        return Ok(());
+    }
+    let said = format!(in rt.alloc();
+        "{path} was made by an earlier hl7gate: let that one deliver what waits, and begin with a new folder"
+    )?;
+    Err(Ended::Unlisted { said })
 }
 
 impl Folder {
@@ -109,12 +123,6 @@ impl Folder {
         path: &'a str,
     ) -> Result<Self, Ended<'a>> {
         let alloc = rt.alloc();
-        if has_spools(rt, path).unwrap_or(false) {
-            let said = format!(in alloc;
-                "{path} was made by another hl7gate: let that one deliver what waits first, and begin with a new folder\n"
-            )?;
-            return Err(Ended::Unlisted { said });
-        }
         let page = format!(in alloc; "{path}/README")?;
         or_unwritten(alloc, &page, fs::write(rt, page.as_str(), PAGE))?;
         let name = format!(in alloc; "{path}/reserve")?;
@@ -125,7 +133,25 @@ impl Folder {
             path: String::from_str(alloc, path)?,
             reserve,
             log,
+            is_log_long: AtomicBool::new(false),
         })
+    }
+
+    /// Adds a line to the log of refusals, unless that is long.
+    pub(crate) fn add(&self, line: &[u8]) {
+        if !self.is_log_long.load(Ordering::SeqCst) {
+            // (the file is opened to be added to)
+            let _ = self.log.write_all_at(line, 0);
+        }
+    }
+
+    /// Whether the log of refusals has come to be long since the last look.
+    pub(crate) fn turn_long(&self) -> bool {
+        let is_long = match self.log.metadata() {
+            Ok(of) => of.len() >= LONG,
+            Err(_) => false,
+        };
+        !self.is_log_long.swap(is_long, Ordering::SeqCst) && is_long
     }
 
     /// What room the disk has. Where the reserve was used it is filled again, if there is room for it.

@@ -1,13 +1,14 @@
 //! Forwarders: each sends one receiver what is due to it, over a connection that is made anew whenever it ends.
-use crate::gateway::clock::Now;
 use crate::gateway::hub::Hub;
 use crate::gateway::lines::Line;
 use crate::gateway::links::{Answers, Records, connect};
 use crate::runtime::Runtime;
+use crate::sockets::is_ended;
+use crate::stamps::Utc;
 use gw_ack::Ack;
+use gw_delivery::{Line as Forwarded, PageFault, Pending};
 use gw_folder::FolderView;
-use gw_forward::{Ended, ForwardFault, Outbox, StoreFault, forward};
-use gw_gateway::{Line as Forwarded, PageFault, Pending, Standing};
+use gw_forward::{Ended, ForwardFault, Outbox, OutboxFault, forward};
 use gw_journal::{Naming, Storage};
 use gw_stream::{Reads, RunFault, Writes};
 use std::alloc::AllocError;
@@ -30,37 +31,49 @@ enum After {
     Nothing,
 }
 
-/// A line, as its forwarder sees it.
+/// A line, as its forwarder sees it, and its connection. `is_over`: no more is sent over that.
 #[derive(Drop)]
 struct Here<'a, 'f, J: Naming, S: Storage + Drop, R: Wait> {
     hub: &'a Hub<'f, J, S, R>,
     line: &'a Line,
+    stream: Cell<Option<Arc<TcpStream>>>,
+    is_over: Cell<bool>,
 }
 
 impl<J: Naming, S: Storage + Drop, R: Wait + Clock + Eprint> Forwarded for Here<'_, '_, J, S, R> {
     fn has_ended(&self) -> bool {
-        self.line.has_ended(self.hub.rt)
+        self.is_over.get() || self.hub.has_ended()
     }
 
     fn is_held(&self) -> bool {
-        self.line.is_held(self.hub.rt)
+        self.hub.is_full() || self.line.stand(self.hub.rt).is_held
     }
 
+    // (the receiver may end its connection meanwhile)
     fn wait(&self) {
         self.line.wait(self.hub.rt);
+        let stream = self.stream.replace(None);
+        if let Some(stream) = &stream
+            && is_ended(stream)
+        {
+            self.is_over.set(true);
+        }
+        self.stream.set(stream);
     }
 
     fn count(&self, ack: Ack) {
-        self.line.count(ack);
+        self.line.count(self.hub.rt, ack);
     }
 
+    // (a receiver that the plan lacks is sent what is left, and then no more)
     fn stands(&self, left: u64, is_next: bool) {
         self.line.set_left(self.hub.rt, left, is_next);
+        if left == 0 && !self.line.stand(self.hub.rt).is_planned {
+            self.is_over.set(true);
+        }
     }
 
-    fn taken(&self) {
-        self.line.count_taken(self.hub.rt);
-    }
+    fn taken(&self) {}
 
     fn refused(&self, place: u64, why: Ack) {
         let name = self.line.name.escape_ascii();
@@ -70,14 +83,28 @@ impl<J: Naming, S: Storage + Drop, R: Wait + Clock + Eprint> Forwarded for Here<
         };
         let folder = &self.hub.folder.path;
         let _ = eprintln!(self.hub.rt;
-            "receiver {name} {answered}: the message is at place {place} of the log (hl7gate log {folder} --place {place})"
+            "receiver {name} {answered}: the message is at place {place} of the log in {folder}"
         );
+    }
+
+    fn unsendable(&self, place: u64, fault: Option<PageFault>) {
+        let name = self.line.name.escape_ascii();
+        let folder = &self.hub.folder.path;
+        let _ = match fault {
+            Some(fault) => eprintln!(self.hub.rt;
+                "receiver {name} isn't sent the message at place {place} of the log in {folder}: {fault}"
+            ),
+            None => eprintln!(self.hub.rt;
+                "receiver {name} isn't sent the message at place {place} of the log in {folder}: no block can have it"
+            ),
+        };
     }
 
     fn failed(&self, fault: PageFault) {
         let name = self.line.name.escape_ascii();
         let _ = eprintln!(self.hub.rt;
-            "receiver {name}: {fault}\n{}: see hl7gate log", self.hub.folder.path
+            "receiver {name}: {fault}\n{}: see hl7gate log",
+            self.hub.folder.path
         );
     }
 }
@@ -85,8 +112,7 @@ impl<J: Naming, S: Storage + Drop, R: Wait + Clock + Eprint> Forwarded for Here<
 /// A forwarder: of whom, and how many seconds it waits before the next try.
 #[derive(Drop)]
 struct Forwarder<'a, 'f, J: Naming, S: Storage + Drop, R: Wait> {
-    hub: &'a Hub<'f, J, S, R>,
-    line: &'a Line,
+    here: &'a Here<'a, 'f, J, S, R>,
     sent: &'a Cell<bool>,
     pause: u64,
 }
@@ -98,45 +124,58 @@ impl<
 > Forwarder<'_, '_, J, S, R> {
     // Waits before the next try; each time twice as long.
     fn wait(&mut self) {
+        let Here { hub, line, .. } = self.here;
         for _fifth in 0..self.pause.saturating_mul(5) {
-            if self.line.has_ended(self.hub.rt) {
-                return;
+            if hub.has_ended() || line.take_hurry(hub.rt) {
+                break;
             }
-            thread::sleep(self.hub.rt, Duration::from_millis(200));
+            thread::sleep(hub.rt, Duration::from_millis(200));
         }
-        self.pause = self.pause.saturating_mul(2).min(LONGEST);
+        self.pause = self.pause.saturating_mul(2).clamp(1, LONGEST);
     }
 
-    // Where the receiver is.
-    fn address(&self) -> Result<Vec<u8>, AllocError> {
-        let alloc = self.hub.rt.alloc();
-        let office = self.hub.journal.lock(self.hub.rt);
-        let receivers = office.state().receivers();
-        match receivers.iter().find(|r| r.number() == self.line.number) {
-            Some(receiver) => Vec::from_slice(alloc, receiver.address()),
-            None => Ok(Vec::new(alloc)),
+    // Where the receiver is, if it is one of the plan, or something is left for it.
+    fn address(&self) -> Result<Option<Vec<u8>>, AllocError> {
+        let Here { hub, line, .. } = self.here;
+        let is_planned = line.stand(hub.rt).is_planned;
+        let office = hub.journal.lock(hub.rt);
+        let receivers = office.ledger.state().receivers();
+        match receivers.iter().find(|r| r.number() == line.number) {
+            Some(receiver) if is_planned || receiver.left() > 0 => {
+                Ok(Some(Vec::from_slice(hub.rt.alloc(), receiver.address())?))
+            }
+            _ => Ok(None),
         }
     }
 
     // Sends what waits over this connection, until it ends.
     fn send_over<O: Outbox + Aside>(&mut self, outbox: &mut O, stream: &TcpStream) -> After {
-        let rt = self.hub.rt;
+        let Here { hub, line, .. } = self.here;
+        let (rt, sent) = (hub.rt, self.sent);
         for _ in rt.forever() {
             let before = outbox.count();
-            let mut reader = Reads::new(Answers::new(rt, self.line, stream));
-            let mut writer = Writes::new(Records::new(stream, self.sent, &self.line.tally));
+            let mut reader = Reads::new(Answers { hub, stream });
+            let mut writer = Writes::new(Records {
+                hub,
+                line,
+                stream,
+                sent,
+                is_new: true,
+            });
             let ended = forward(rt.alloc(), outbox, &mut reader, &mut writer);
             if outbox.count() > before {
-                self.pause = 1;
+                self.pause = 0;
             }
             match ended {
-                Ok(Ended::Closed) => return After::Nothing,
-                Ok(Ended::Again) => self.wait(),
+                Ok(Ended::Closed) => return self.closed(),
+                Ok(Ended::Again) => {
+                    self.pause = self.pause.max(1);
+                    self.wait();
+                }
                 Err(ForwardFault::Record { .. }) => match outbox.put_aside() {
-                    Ok(true) => {}
-                    Ok(false) => self.wait(),
-                    Err(StoreFault::Memory) => return self.ended_by(ForwardFault::Memory),
-                    Err(StoreFault::Disk) => return self.ended_by(ForwardFault::Disk),
+                    Ok(()) => {}
+                    Err(OutboxFault::Memory) => return self.ended_by(ForwardFault::Memory),
+                    Err(_) => return self.ended_by(ForwardFault::Disk),
                 },
                 Err(fault) => return self.ended_by(fault),
             }
@@ -144,82 +183,101 @@ impl<
         unreachable!()
     }
 
+    // Nothing more is sent over a connection, though nothing failed.
+    fn closed(&mut self) -> After {
+        let Here { hub, line, .. } = self.here;
+        if hub.has_ended() {
+            return After::Nothing;
+        }
+        if line.stand(hub.rt).is_planned {
+            let name = line.name.escape_ascii();
+            let _ = eprintln!(hub.rt; "receiver {name} ended its connection; it is connected anew");
+        }
+        self.pause = self.pause.min(1);
+        After::Another
+    }
+
     // A connection, or what waits for its receiver, has failed.
     fn ended_by(&mut self, fault: ForwardFault) -> After {
-        let rt = self.hub.rt;
-        let name = self.line.name.escape_ascii();
-        if self.line.has_ended(rt) {
+        let Here { hub, line, .. } = self.here;
+        let name = line.name.escape_ascii();
+        if hub.has_ended() {
             return After::Nothing;
         }
         let _ = match fault {
             ForwardFault::Disk => {
-                self.hub.fail(RunFault::Write);
+                hub.fail(RunFault::Write);
                 return After::Nothing;
             }
-            ForwardFault::Memory => eprintln!(rt; "receiver {name}: out of memory; it goes on"),
+            ForwardFault::Memory => eprintln!(hub.rt; "receiver {name}: out of memory; it goes on"),
             _ if self.sent.get() => {
-                eprintln!(rt; "receiver {name} did not acknowledge a message; it is connected anew")
+                eprintln!(hub.rt;
+                    "receiver {name} did not acknowledge a message; it is connected anew"
+                )
             }
-            _ => eprintln!(rt; "receiver {name} ended its connection; it is connected anew"),
+            _ => eprintln!(hub.rt; "receiver {name} ended its connection; it is connected anew"),
         };
         After::Another
     }
 
+    // Sends over a connection, which the line keeps meanwhile.
+    fn go_over<O: Outbox + Aside>(
+        &mut self,
+        outbox: &mut O,
+        stream: TcpStream,
+    ) -> Result<After, AllocError> {
+        let Here { hub, line, .. } = self.here;
+        let stream = Arc::new(hub.rt.alloc(), stream)?;
+        self.here.stream.set(Some(stream.clone()?));
+        self.here.is_over.set(false);
+        line.set_connected(hub.rt, true);
+        let after = self.send_over(outbox, &stream);
+        line.set_connected(hub.rt, false);
+        self.here.stream.set(None);
+        Ok(after)
+    }
+
     // Connects, sends, and connects anew, until nothing more is sent.
     fn run<O: Outbox + Aside>(&mut self, outbox: &mut O) {
-        let rt = self.hub.rt;
+        let Here { hub, line, .. } = self.here;
+        let rt = hub.rt;
         let mut is_down = false;
-        self.line.set_connected(rt, false);
+        line.set_connected(rt, false);
         for _ in rt.forever() {
-            let Ok(address) = self.address() else {
-                self.wait();
+            if hub.has_ended() {
+                return;
+            }
+            let Ok(Some(address)) = self.address() else {
+                line.wait(rt);
                 continue;
             };
+            let (name, at) = (line.name.escape_ascii(), address.escape_ascii());
             if let Some(stream) = connect(rt, &address) {
                 is_down = false;
-                self.print_connected(&address);
-                self.line.set_connected(rt, true);
-                let after = self.send_over(outbox, &stream);
-                self.line.set_connected(rt, false);
-                if after == After::Nothing {
+                let _ = eprintln!(rt; "receiver {name} at {at} connected");
+                if self.sent.get() {
+                    let name = line.name.escape_ascii();
+                    let _ = eprintln!(rt;
+                        "receiver {name}: a message is sent that it may have already: it wasn't acknowledged"
+                    );
+                }
+                if let Ok(After::Nothing) = self.go_over(outbox, stream) {
                     return;
                 }
             } else if !is_down {
                 is_down = true;
-                self.print_down(&address);
+                let _ = eprintln!(rt;
+                    "receiver {name} can't be connected; it is tried until it is\n{at}: can't be connected"
+                );
             }
             self.wait();
-            if self.line.has_ended(rt) {
-                return;
-            }
-        }
-    }
-
-    fn print_down(&self, address: &[u8]) {
-        let name = self.line.name.escape_ascii();
-        let address = address.escape_ascii();
-        let _ = eprintln!(self.hub.rt;
-            "receiver {name} can't be connected; it is tried until it is\n{address}: can't be connected"
-        );
-    }
-
-    fn print_connected(&self, address: &[u8]) {
-        let rt = self.hub.rt;
-        let name = self.line.name.escape_ascii();
-        let address = address.escape_ascii();
-        let _ = eprintln!(rt; "receiver {name} at {address} connected");
-        if self.sent.get() {
-            let name = self.line.name.escape_ascii();
-            let _ = eprintln!(rt;
-                "receiver {name}: a message is sent that it may have already: it wasn't acknowledged"
-            );
         }
     }
 }
 
 /// An outbox of which a record that can't be sent is put aside.
 trait Aside {
-    fn put_aside(&mut self) -> Result<bool, StoreFault>;
+    fn put_aside(&mut self) -> Result<(), OutboxFault>;
 }
 
 impl<
@@ -230,38 +288,34 @@ impl<
     L: Forwarded,
     T: gw_gateway::Times,
 > Aside for Pending<'_, J, S, V, R, L, T> {
-    fn put_aside(&mut self) -> Result<bool, StoreFault> {
+    fn put_aside(&mut self) -> Result<(), OutboxFault> {
         Pending::put_aside(self)
     }
 }
 
-/// Sends a receiver what is due to it, until the gateway ends.
-pub(crate) fn forward_all<
+/// Sends a receiver what is due to it. False: the log's folder can't be opened now.
+fn forward_by<
     J: Naming,
     S: Storage + Drop,
     R: Runtime + Wait + Net<Stream = TcpStream, Listener = TcpListener>,
->(
-    hub: &Hub<'_, J, S, R>,
-    line: Arc<Line>,
-) {
+>(hub: &Hub<'_, J, S, R>, line: &Line) -> bool {
     let alloc = hub.rt.alloc();
     let path = hub.folder.path.as_str();
-    let (Ok(view), Ok(other), Ok(name)) = (
+    let (Ok(view), Ok(other)) = (
         FolderView::beside(hub.rt, path),
         FolderView::beside(hub.rt, path),
-        Vec::from_slice(alloc, &line.name),
     ) else {
-        hub.fail(RunFault::Read);
-        return;
+        return false;
     };
     // (what is left from before the start may have been sent then)
-    let waits = match hub.journal.lock(hub.rt).standing(line.number) {
-        Some(Standing { left, .. }) => left > 0,
-        None => false,
+    let sent = Cell::new(hub.left_for(line.number) > 0);
+    let here = Here {
+        hub,
+        line,
+        stream: Cell::new(None),
+        is_over: Cell::new(false),
     };
-    let sent = Cell::new(waits);
-    let here = Here { hub, line: &line };
-    let times = Now::new(hub.rt, hub.start);
+    let times = Utc::new(hub.rt, hub.start);
     let mut outbox = Pending::new(
         hub.rt,
         alloc,
@@ -271,14 +325,28 @@ pub(crate) fn forward_all<
         &times,
         (view, other),
         line.number,
-        name,
+        &line.name,
         &sent,
     );
     let mut forwarder = Forwarder {
-        hub,
-        line: &line,
+        here: &here,
         sent: &sent,
         pause: 1,
     };
     forwarder.run(&mut outbox);
+    true
+}
+
+/// Sends a receiver what is due to it, until the gateway ends.
+pub(crate) fn forward_all<
+    J: Naming,
+    S: Storage + Drop,
+    R: Runtime + Wait + Net<Stream = TcpStream, Listener = TcpListener>,
+>(hub: &Hub<'_, J, S, R>, line: Arc<Line>) {
+    for _ in hub.rt.forever() {
+        if hub.has_ended() || forward_by(hub, &line) {
+            return;
+        }
+        line.wait(hub.rt);
+    }
 }

@@ -1,14 +1,15 @@
 //! A message that is too long: it is answered AR where its first segment came, before its connection ends.
 use crate::gateway::hub::Hub;
 use crate::gateway::refusals::Logged;
+use crate::gateway::senders::Sender;
 use crate::stamps::Utc;
 use gw_ack::{Header, INTERNAL, Reply, answer};
 use gw_er7::{ReadFault, read};
+use gw_journal::{Naming, Storage};
 use gw_mllp::{is_content, write_block};
 use gw_run::Clock as Stamps;
 use gw_stream::{Counts, RunFault};
 use memchr::memchr;
-use gw_journal::{Naming, Storage};
 use std::alloc::{AllocError, Global};
 use std::io::{Eprint, ErrorKind, Read, Write};
 use std::net::{Shutdown, TcpStream};
@@ -69,7 +70,10 @@ fn block_of<J: Naming, S: Storage + Drop, R: Wait + Clock>(
 }
 
 /// Reads what a sender still sends. If bytes were left unread, the system would drop the answer with them.
-fn read_rest<J: Naming, S: Storage + Drop, R: Wait + Clock>(hub: &Hub<'_, J, S, R>, stream: &TcpStream) {
+fn read_rest<J: Naming, S: Storage + Drop, R: Wait + Clock>(
+    hub: &Hub<'_, J, S, R>,
+    stream: &TcpStream,
+) {
     let _ = stream.set_read_timeout(Some(Duration::from_millis(LOOK)));
     let Ok(begun) = Instant::now(hub.rt) else {
         return;
@@ -92,17 +96,17 @@ fn read_rest<J: Naming, S: Storage + Drop, R: Wait + Clock>(hub: &Hub<'_, J, S, 
 /// Answers the message that begins in these bytes AR under this number, if its header came. Nothing is sent to this sender any more.
 pub(crate) fn reject<J: Naming, S: Storage + Drop, R: Wait + Clock + Eprint + AllocGlobal>(
     hub: &Hub<'_, J, S, R>,
-    stream: &TcpStream,
-    session: u64,
+    sender: &Sender,
     bytes: &[u8],
     number: u64,
 ) -> Result<(), AllocError> {
+    let stream = &sender.stream;
     let alloc = hub.rt.alloc();
     let Some(header) = header_in(alloc, bytes)? else {
         return Ok(());
     };
     let block = block_of(hub, alloc, &header, number)?;
-    let mut writer = Logged::new(alloc, hub, stream, session);
+    let mut writer = Logged::new(alloc, hub, stream, sender.number);
     if writer.write_all(&block).is_ok() {
         let _ = stream.shutdown(Shutdown::Write);
         read_rest(hub, stream);

@@ -1,71 +1,57 @@
-//! Plans that take the place of the one in force.
+//! Plans that take the place of the one in force, and those that the log has.
 use crate::ended::Ended;
 use crate::files::read_text;
-use crate::gateway::clock::microseconds;
 use crate::gateway::hub::Hub;
 use crate::gateway::lines::Line;
-use crate::gateway::lobby::Guest;
 use crate::plans::parse_plan;
 use crate::runtime::Runtime;
+use crate::stamps::microseconds;
 use crate::swaps::{Unswapped, lines_of};
-use gw_due::Receiver;
 use gw_gateway::PutFault;
 use gw_journal::{Naming, Storage};
 use gw_plan::Plan;
 use gw_stream::RunFault;
 use std::alloc::{AllocError, Global};
-use std::io::Write;
+use std::fs::metadata;
 use std::sync::{Arc, Wait};
 
-/// Begins the line of a receiver, which has none yet.
-fn begin_line<J: Naming, S: Storage + Drop, R: Runtime + Wait>(
+/// The receivers for which something is left, and those of the plan in force: their numbers and names, and whether the plan has them.
+fn wanted<J: Naming, S: Storage + Drop, R: Runtime + Wait>(
     hub: &Hub<'_, J, S, R>,
-    number: u32,
-    name: Vec<u8>,
-) -> Result<(), AllocError> {
-    let line = Arc::new(hub.rt.alloc(), Line::new(number, name))?;
-    line.set_full(hub.rt, hub.is_full());
-    hub.lines.add(hub.rt, line.clone()?)?;
-    if !hub.lobby.queue(hub.rt, Guest::Line(line)) {
-        return Err(AllocError);
-    }
-    Ok(())
-}
-
-/// Whether a receiver gets a line: it is one of the plan, or something is left for it.
-fn has_line(numbers: &[u32], receiver: &Receiver) -> bool {
-    receiver.left() > 0 || numbers.contains(&receiver.number())
-}
-
-/// The receivers that want a line and have none: their numbers and names.
-fn without_line<J: Naming, S: Storage + Drop, R: Runtime + Wait>(
-    hub: &Hub<'_, J, S, R>,
-) -> Result<Vec<(u32, Vec<u8>)>, AllocError> {
+) -> Result<Vec<(u32, Vec<u8>, bool)>, AllocError> {
     let alloc = hub.rt.alloc();
-    let mut new = Vec::new(alloc);
+    let mut wanted = Vec::new(alloc);
     let office = hub.journal.lock(hub.rt);
-    for receiver in office.state().receivers() {
-        if has_line(&office.current().numbers, receiver) {
-            new.push((receiver.number(), Vec::from_slice(alloc, receiver.name())?))?;
+    for receiver in office.ledger.state().receivers() {
+        let is_planned = office.current().numbers.contains(&receiver.number());
+        if is_planned || receiver.left() > 0 {
+            let name = Vec::from_slice(alloc, receiver.name())?;
+            wanted.push((receiver.number(), name, is_planned))?;
         }
     }
-    Ok(new)
+    Ok(wanted)
 }
 
-/// Begins a line for each receiver that wants one and has none.
+/// Has each receiver that wants a line have one, and each line know whether the plan in force has its receiver.
 pub(crate) fn begin_lines<J: Naming, S: Storage + Drop, R: Runtime + Wait>(
     hub: &Hub<'_, J, S, R>,
 ) -> Result<(), AllocError> {
-    for (number, name) in without_line(hub)? {
+    let wanted = wanted(hub)?;
+    for line in &hub.lines.all(hub.rt, hub.rt.alloc())? {
+        let is_planned = wanted.iter().any(|one| one.0 == line.number && one.2);
+        line.set_planned(hub.rt, is_planned);
+    }
+    for (number, name, is_planned) in wanted {
         if hub.lines.find(hub.rt, number).is_none() {
-            begin_line(hub, number, name)?;
+            let line = Line::new(number, name, is_planned);
+            hub.lines.add(hub.rt, Arc::new(hub.rt.alloc(), line)?)?;
         }
     }
     Ok(())
 }
 
 /// Takes a plan, and gives its version once that is on the disk.
-pub(crate) fn take<J: Naming, S: Storage + Drop, R: Runtime + Wait>(
+fn take<J: Naming, S: Storage + Drop, R: Runtime + Wait>(
     hub: &Hub<'_, J, S, R>,
     plan: Arc<Plan>,
 ) -> Result<u64, PutFault> {
@@ -80,12 +66,12 @@ pub(crate) fn take<J: Naming, S: Storage + Drop, R: Runtime + Wait>(
     Ok(change.version)
 }
 
-/// The plan of a file.
-fn read_plan<'a, R: Runtime>(
-    rt: &R,
-    alloc: Global,
-    path: &'a str,
-) -> Result<Arc<Plan>, Ended<'a>> {
+/// The plan of a file, which has to be a regular one: a pipe would be waited for.
+fn read_plan<'a, R: Runtime>(rt: &R, alloc: Global, path: &'a str) -> Result<Arc<Plan>, Ended<'a>> {
+    match metadata(rt, path) {
+        Ok(of) if of.is_file() => {}
+        _ => return Err(Ended::Unread { path }),
+    }
     let text = read_text(rt, path)?;
     let plan = parse_plan(alloc, path, &text)?;
     Ok(Arc::new(alloc, plan)?)
@@ -96,37 +82,30 @@ pub(crate) fn take_file<J: Naming, S: Storage + Drop, R: Runtime + Wait>(
     hub: &Hub<'_, J, S, R>,
     path: &str,
     is_install: bool,
-) -> Result<Vec<u8>, AllocError> {
+) -> Result<String, AllocError> {
     let alloc = hub.rt.alloc();
-    let mut answer = Vec::new(alloc);
     let plan = match read_plan(hub.rt, alloc, path) {
         Ok(plan) => plan,
         Err(ended) => {
-            answer.extend_from_slice(b"refused\n")?;
-            answer.extend_from_slice(&lines_of(hub.rt, path, &Unswapped::Text(ended)))?;
-            return Ok(answer);
+            let lines = lines_of(hub.rt, path, &Unswapped::Text(ended));
+            let lines = String::from_utf8(lines).unwrap_or(String::new(alloc));
+            return format!(in alloc; "refused\n{lines}");
         }
     };
     let current = hub.journal.lock(hub.rt).current().clone()?;
     if !is_install && !current.plan.same_receivers(&plan) {
-        let _ = writeln!(
-            answer,
-            "refused\nswap refused 3\n{path}: the plan has other receivers\n`install {path}` takes a plan with other receivers"
+        return format!(in alloc;
+            "refused\nswap refused 3\n{path}: the plan has other receivers\n`install {path}` takes a plan with other receivers\n"
         );
-        return Ok(answer);
     }
     let word = if is_install { "installed" } else { "swapped" };
     match take(hub, plan) {
-        Ok(version) => {
-            let _ = writeln!(answer, "{word} {version}");
-        }
-        Err(PutFault::Disk) => {
-            hub.fail(RunFault::Write);
-            let _ = writeln!(answer, "refused\n{path}: the disk has failed");
-        }
+        Ok(version) => format!(in alloc; "{word} {version}\n"),
         Err(fault) => {
-            let _ = writeln!(answer, "refused\n{path}: {fault}");
+            if fault == PutFault::Disk {
+                hub.fail(RunFault::Write);
+            }
+            format!(in alloc; "refused\n{path}: {fault}\n")
         }
     }
-    Ok(answer)
 }

@@ -1,30 +1,52 @@
 //! The word `resend`: what a receiver refused is due to it once more.
-use crate::gateway::clock::microseconds;
 use crate::gateway::hub::Hub;
+use crate::gateway::lines::Line;
 use crate::runtime::Runtime;
+use crate::stamps::microseconds;
+use gw_delivery::{Keeper, PageFault, Pages};
 use gw_folder::FolderView;
-use gw_gateway::{PageFault, Pages, PutFault};
 use gw_journal::{Naming, Storage};
 use gw_ledger::Message;
 use std::alloc::AllocError;
 use std::sync::Wait;
 
-/// The messages that a receiver refused and that weren't due to it again since.
+/// That a folder can't be opened now.
+const UNOPENED: PageFault = PageFault::Damaged { segment: 0, at: 0 };
+
+/// Where the messages stand that lie refused by a receiver.
+fn places<J: Naming, S: Storage + Drop, R: Runtime + Wait>(
+    hub: &Hub<'_, J, S, R>,
+    receiver: u32,
+) -> Result<Vec<u64>, PageFault> {
+    let Ok(view) = FolderView::beside(hub.rt, &hub.folder.path) else {
+        return Err(UNOPENED);
+    };
+    let mut keeper = Keeper::new(hub.rt.alloc(), view);
+    let next = hub.journal.lock(hub.rt).ledger.state().next();
+    // (what a refusal wrote is on the disk before its forwarder goes on)
+    for _ in 0..u64::MAX {
+        let before = keeper.place();
+        if keeper.read_to(hub.tail(), next)? || keeper.place() == before {
+            break;
+        }
+    }
+    Ok(keeper.refused(receiver)?)
+}
+
+/// The messages that lie refused by a receiver.
 fn refused<J: Naming, S: Storage + Drop, R: Runtime + Wait>(
     hub: &Hub<'_, J, S, R>,
     receiver: u32,
 ) -> Result<Vec<Message<J>>, PageFault> {
     let alloc = hub.rt.alloc();
     let Ok(view) = FolderView::beside(hub.rt, &hub.folder.path) else {
-        return Err(PageFault::Damaged { segment: 0, at: 0 });
+        return Err(UNOPENED);
     };
     let mut pages = Pages::new(alloc, view);
-    let tail = hub.journal.lock(hub.rt).tail();
-    let places = pages.refused(tail, receiver)?;
     let mut messages = Vec::new(alloc);
-    for place in &places {
-        let bytes = pages.find(tail, *place)?;
-        let found = hub.journal.lock(hub.rt).message(*place, &bytes)?;
+    for place in &places(hub, receiver)? {
+        let bytes = pages.find(hub.tail(), *place)?;
+        let found = hub.journal.lock(hub.rt).ledger.message(*place, &bytes)?;
         if let Some(message) = found {
             messages.push(message)?;
         }
@@ -32,15 +54,12 @@ fn refused<J: Naming, S: Storage + Drop, R: Runtime + Wait>(
     Ok(messages)
 }
 
-/// Has all that a receiver refused be due to it once more.
+/// Has all that a receiver refused be due to it once more, in the order in which it refused it.
 pub(crate) fn resend<J: Naming, S: Storage + Drop, R: Runtime + Wait>(
     hub: &Hub<'_, J, S, R>,
-    name: &str,
+    line: &Line,
 ) -> Result<String, AllocError> {
     let alloc = hub.rt.alloc();
-    let Some(line) = hub.lines.named(hub.rt, name.as_bytes()) else {
-        return format!(in alloc; "refused: no receiver of the plan has this name\n");
-    };
     let messages = match refused(hub, line.number) {
         Ok(messages) => messages,
         Err(PageFault::Memory) => return Err(AllocError),
@@ -49,10 +68,13 @@ pub(crate) fn resend<J: Naming, S: Storage + Drop, R: Runtime + Wait>(
     let time = microseconds(hub.rt);
     let mut last = None;
     for message in &messages {
-        let put = hub.journal.lock(hub.rt).again(time, line.number, message);
+        let put = hub
+            .journal
+            .lock(hub.rt)
+            .ledger
+            .again(time, line.number, message);
         match put {
             Ok(ticket) => last = Some(ticket),
-            Err(PutFault::Memory) => return Err(AllocError),
             Err(fault) => return format!(in alloc; "refused: {fault}\n"),
         }
     }
@@ -62,5 +84,5 @@ pub(crate) fn resend<J: Naming, S: Storage + Drop, R: Runtime + Wait>(
         return format!(in alloc; "refused: the disk has failed\n");
     }
     line.ring(hub.rt);
-    format!(in alloc; "resent: {} messages are sent to {name} once more\n", messages.len())
+    format!(in alloc; "resent {}\n", messages.len())
 }

@@ -1,20 +1,26 @@
 //! Sessions: no answer goes out before what it answers is on the disk.
-use crate::gateway::clock::Now;
 use crate::gateway::hub::Hub;
-use crate::gateway::links::watch;
-use crate::gateway::lobby::{Guest, Sender};
 use crate::gateway::overlong::{is_overlong, reject};
 use crate::gateway::refusals::{Logged, TURN};
 use crate::gateway::sent::Sent;
-use crate::sockets::pause;
+use crate::sockets::{pause, watch};
+use crate::stamps::Utc;
 use crate::threads::print_counts;
 use gw_gateway::{AtLog, Bells};
 use gw_journal::{Naming, Storage};
 use gw_stream::{Counts, Reads, RunFault, Writes, answer_blocks};
-use std::io::Eprint;
-use std::net::TcpListener;
+use std::io::{Eprint, ErrorKind};
+use std::net::{SocketAddr, TcpListener, TcpStream};
 use std::sync::Wait;
+use std::sync::atomic::Ordering;
 use std::time::{Clock, Duration};
+
+/// A sender's connection, and its number, from 1.
+#[derive(Drop)]
+pub(crate) struct Sender {
+    pub(crate) number: u64,
+    pub(crate) stream: TcpStream,
+}
 
 /// The forwarders' bells.
 #[derive(Drop)]
@@ -34,7 +40,7 @@ impl<J: Naming, S: Storage + Drop, R: Wait + Clock> Bells for Ringing<'_, '_, J,
     }
 
     fn accepted(&self, count: u64) {
-        self.hub.count_accepted(count);
+        self.hub.accepted.fetch_add(count, Ordering::SeqCst);
     }
 }
 
@@ -45,15 +51,16 @@ fn answer<J: Naming, S: Storage + Drop, R: Wait + AllocGlobal + Clock + Eprint>(
 ) -> Result<Counts, RunFault> {
     let alloc = hub.rt.alloc();
     let mut sent = Sent::new(alloc, hub, &sender.stream);
-    let mut clock = Now::new(hub.rt, hub.start);
+    let mut clock = Utc::new(hub.rt, hub.start);
     let bells = Ringing { hub };
     let mut judge = AtLog::new(alloc, hub.rt, &hub.journal, &mut clock, &bells);
     let mut writer = Writes::new(Logged::new(alloc, hub, &sender.stream, sender.number));
     let mut reader = Reads::new(&mut sent);
     let answered = answer_blocks(alloc, &mut judge, &mut reader, &mut writer);
+    sent.give_turn();
     if is_overlong(&answered) {
         let number = judge.number(alloc);
-        reject(hub, &sender.stream, sender.number, &sent.into_beginning(), number)?;
+        reject(hub, sender, sent.beginning(), number)?;
     }
     answered
 }
@@ -76,46 +83,42 @@ pub(crate) fn attend<J: Naming, S: Storage + Drop, R: Wait + AllocGlobal + Clock
             let _ = eprintln!(hub.rt; "session {number} ended: fault {}: {fault}", fault.number());
         }
     }
-    hub.lobby.leave(hub.rt);
+    hub.leave();
 }
 
-/// Accepts connections, at most as many at once, until the gateway ends.
-pub(crate) fn accept_all<J: Naming, S: Storage + Drop, R: Wait + AllocGlobal + Clock + Eprint>(
+/// Has a connection that was accepted be a session, where fewer than `most` are open.
+fn welcome<J: Naming, S: Storage + Drop, R: Wait + Eprint>(
     hub: &Hub<'_, J, S, R>,
-    listener: TcpListener,
+    stream: TcpStream,
+    peer: SocketAddr,
     most: u64,
-) {
-    let rt = hub.rt;
-    for _ in rt.forever() {
-        match listener.accept() {
-            Ok((stream, peer)) => {
-                if hub.lobby.is_closed() {
-                    return;
-                }
-                match hub.lobby.admit(rt, most) {
-                    Some(number) => {
-                        let _ = eprintln!(rt; "session {number} from {peer}");
-                        let _ = stream.set_nodelay(true);
-                        let _ = stream.set_write_timeout(Some(Duration::from_millis(TURN)));
-                        watch(&stream);
-                        let sender = Sender { number, stream };
-                        if !hub.lobby.queue(rt, Guest::Sender(sender)) {
-                            hub.lobby.leave(rt);
-                        }
-                    }
-                    None => {
-                        let _ = eprintln!(rt;
-                            "a connection from {peer} was closed: {most} are open (--connections)"
-                        );
-                    }
-                }
-            }
-            Err(_) => {
-                if hub.lobby.is_closed() {
-                    return;
-                }
-                pause(rt);
-            }
+) -> Option<Sender> {
+    let Some(number) = hub.admit(most) else {
+        let _ = eprintln!(hub.rt;
+            "a connection from {peer} was closed: {most} are open (--connections)"
+        );
+        return None;
+    };
+    let _ = eprintln!(hub.rt; "session {number} from {peer}");
+    let _ = stream.set_nodelay(true);
+    let _ = stream.set_write_timeout(Some(Duration::from_millis(TURN)));
+    watch(&stream);
+    Some(Sender { number, stream })
+}
+
+/// The next session, where at most as many connections are open. It is waited for a quarter of a second.
+pub(crate) fn next_sender<J: Naming, S: Storage + Drop, R: Wait + Clock + Eprint>(
+    hub: &Hub<'_, J, S, R>,
+    listener: &TcpListener,
+    most: u64,
+) -> Option<Sender> {
+    match listener.accept() {
+        Ok((stream, peer)) => welcome(hub, stream, peer, most),
+        Err(error) if error.kind() == ErrorKind::WouldBlock => None,
+        Err(error) => {
+            let _ = eprintln!(hub.rt; "a connection can't be accepted: {error}");
+            pause(hub.rt);
+            None
         }
     }
 }

@@ -1,5 +1,6 @@
 //! What a sender sends, as a session reads it.
 use crate::gateway::hub::Hub;
+use crate::sockets::pause;
 use gw_journal::{Naming, Storage};
 use memchr::{memchr, memrchr};
 use std::alloc::{AllocError, Global};
@@ -8,7 +9,7 @@ use std::io::{Error, ErrorKind, Read};
 use std::mem::swap;
 use std::net::TcpStream;
 use std::sync::Wait;
-use std::time::Duration;
+use std::time::{Clock, Duration, Instant};
 
 /// The bytes that begin and end a message (MLLP Release 1).
 const VT: u8 = 0x0b;
@@ -26,11 +27,19 @@ const SILENCE: u64 = 30_000;
 
 const LAST: u64 = 2_000;
 
+/// How many bytes of a message each session may keep without a turn.
+const FREE: usize = 65_536;
+
+/// How many seconds a long message may take to come, where others wait for their turn.
+const PATIENCE: u64 = 60;
+
 /// Where a stream stands: within a message or not, and the beginning of the message. Of the one that the last piece ended, the beginning is kept too:
 /// if it is too long, its session ends before the next piece is read.
 #[derive(Drop)]
 struct Stand {
     is_within: bool,
+    // of the message, so far
+    size: usize,
     beginning: Vec<u8>,
     ended: Vec<u8>,
 }
@@ -49,6 +58,7 @@ impl Stand {
                 swap(&mut self.ended, &mut self.beginning);
             }
             self.is_within = false;
+            self.size = 0;
             self.beginning.clear();
         }
         let rest = piece.get(behind..).unwrap_or(&[]);
@@ -65,6 +75,7 @@ impl Stand {
     }
 
     fn keep(&mut self, bytes: &[u8]) -> Result<(), AllocError> {
+        self.size = self.size.saturating_add(bytes.len());
         let room = BEGINNING.saturating_sub(self.beginning.len());
         let first = bytes.get(..room.min(bytes.len())).unwrap_or(&[]);
         self.beginning.extend_from_slice(first)?;
@@ -72,16 +83,18 @@ impl Stand {
     }
 }
 
-/// A sender's connection. It ends between two messages where the gateway ends.
+/// A sender's connection. It ends between two messages where the gateway ends. A message that is long is read on once it has a turn.
 #[derive(Drop)]
 pub(crate) struct Sent<'a, 'f, J: Naming, S: Storage + Drop, R: Wait> {
     hub: &'a Hub<'f, J, S, R>,
     stream: &'a TcpStream,
     stand: Stand,
     silent: u64,
+    // since when it has a turn
+    turn: Option<Instant>,
 }
 
-impl<'a, 'f, J: Naming, S: Storage + Drop, R: Wait> Sent<'a, 'f, J, S, R> {
+impl<'a, 'f, J: Naming, S: Storage + Drop, R: Wait + Clock> Sent<'a, 'f, J, S, R> {
     pub(crate) fn new(alloc: Global, hub: &'a Hub<'f, J, S, R>, stream: &'a TcpStream) -> Self {
         let _ = stream.set_read_timeout(Some(Duration::from_millis(LOOK)));
         Sent {
@@ -89,20 +102,66 @@ impl<'a, 'f, J: Naming, S: Storage + Drop, R: Wait> Sent<'a, 'f, J, S, R> {
             stream,
             stand: Stand {
                 is_within: false,
+                size: 0,
                 beginning: Vec::new(alloc),
                 ended: Vec::new(alloc),
             },
             silent: 0,
+            turn: None,
         }
     }
 
     /// The beginning of the message that the session was about to get.
-    pub(crate) fn into_beginning(self) -> Vec<u8> {
-        let Sent { stand, .. } = self;
-        let Stand {
-            beginning, ended, ..
-        } = stand;
-        if ended.is_empty() { beginning } else { ended }
+    pub(crate) fn beginning(&self) -> &[u8] {
+        if self.stand.ended.is_empty() {
+            &self.stand.beginning
+        } else {
+            &self.stand.ended
+        }
+    }
+
+    /// Has no turn any more.
+    pub(crate) fn give_turn(&mut self) {
+        if self.turn.is_some() {
+            self.turn = None;
+            self.hub.give_turn();
+        }
+    }
+
+    // Waits for a turn. False: the gateway ends.
+    fn wait_for_turn(&self) -> bool {
+        for _ in self.hub.rt.forever() {
+            if self.hub.take_turn() {
+                return true;
+            }
+            if self.hub.has_ended() {
+                return false;
+            }
+            pause(self.hub.rt);
+        }
+        unreachable!()
+    }
+
+    // Has a turn, where the message is long. Whoever has one for long, while others wait, is not waited for.
+    fn take_turn(&mut self) -> io::Result<()> {
+        let rt = self.hub.rt;
+        let Some(since) = self.turn else {
+            if self.stand.size < FREE {
+                return Ok(());
+            }
+            self.hub.set_waiting(true);
+            let has_turn = self.wait_for_turn();
+            self.hub.set_waiting(false);
+            if has_turn {
+                self.turn = Instant::now(rt).ok();
+                return Ok(());
+            }
+            return Err(Error::from(ErrorKind::TimedOut));
+        };
+        if since.elapsed(rt)?.as_secs() >= PATIENCE && self.hub.is_waited_for() {
+            return Err(Error::from(ErrorKind::TimedOut));
+        }
+        Ok(())
     }
 
     // Nothing came in time. False: the session ends here.
@@ -121,11 +180,16 @@ impl<'a, 'f, J: Naming, S: Storage + Drop, R: Wait> Sent<'a, 'f, J, S, R> {
     }
 }
 
-impl<J: Naming, S: Storage + Drop, R: Wait> Read for Sent<'_, '_, J, S, R> {
+impl<J: Naming, S: Storage + Drop, R: Wait + Clock> Read for Sent<'_, '_, J, S, R> {
     fn read(&mut self, buf: &mut [u8]) -> io::Result<usize> {
-        if !self.stand.is_within && self.hub.has_ended() {
-            return Ok(0);
+        if !self.stand.is_within {
+            // (what came before is answered)
+            self.give_turn();
+            if self.hub.has_ended() {
+                return Ok(0);
+            }
         }
+        self.take_turn()?;
         for _ in 0..u64::MAX {
             let mut stream = self.stream;
             match stream.read(buf) {

@@ -1,50 +1,40 @@
 //! What a gateway says of itself. Nothing of a message is in it.
-use crate::gateway::hub::{Counters, Hub};
-use crate::gateway::lines::{Line, Seen};
-use gw_due::Receiver;
+use crate::gateway::hub::Hub;
+use crate::gateway::lines::{Line, Stand};
+use crate::gateway::page::figures_of;
 use gw_journal::{Naming, Storage};
-use std::alloc::{AllocError, Global};
+use gw_page::Figures;
+use std::alloc::AllocError;
 use std::sync::{Arc, Wait};
 use std::time::Clock;
 
-/// A receiver as the log has it.
+/// A receiver's line, how it stands, and what the log has of it: its address, how many are left for it, and how many it refused in all.
 #[derive(Drop)]
-pub(crate) struct Known {
+pub(crate) struct Shown {
+    pub(crate) line: Arc<Line>,
+    pub(crate) stand: Stand,
     pub(crate) address: Vec<u8>,
     pub(crate) left: u64,
     pub(crate) refused: u64,
 }
 
-/// A receiver's line, and how it stands.
-#[derive(Drop)]
-pub(crate) struct Shown {
-    pub(crate) line: Arc<Line>,
-    pub(crate) seen: Seen,
-    pub(crate) known: Known,
-}
-
-fn known_of(alloc: Global, receiver: &Receiver) -> Result<Known, AllocError> {
-    Ok(Known {
-        address: Vec::from_slice(alloc, receiver.address())?,
-        left: receiver.left(),
-        refused: receiver.refused(),
-    })
-}
-
-/// How a line stands.
-fn shown<J: Naming, S: Storage + Drop, R: Wait + Clock + AllocGlobal>(
+/// How a line stands. None: the plan lacks its receiver, and nothing is left for it.
+fn stands<J: Naming, S: Storage + Drop, R: Wait + Clock + AllocGlobal>(
     hub: &Hub<'_, J, S, R>,
     line: Arc<Line>,
 ) -> Result<Option<Shown>, AllocError> {
-    let seen = line.seen(hub.rt);
+    let stand = line.stand(hub.rt);
     let office = hub.journal.lock(hub.rt);
-    let receivers = office.state().receivers();
+    let receivers = office.ledger.state().receivers();
     match receivers.iter().find(|r| r.number() == line.number) {
-        Some(receiver) => {
-            let known = known_of(hub.rt.alloc(), receiver)?;
-            Ok(Some(Shown { line, seen, known }))
-        }
-        None => Ok(None),
+        Some(receiver) if stand.is_planned || receiver.left() > 0 => Ok(Some(Shown {
+            line,
+            stand,
+            address: Vec::from_slice(hub.rt.alloc(), receiver.address())?,
+            left: receiver.left(),
+            refused: receiver.refused(),
+        })),
+        _ => Ok(None),
     }
 }
 
@@ -54,7 +44,7 @@ pub(crate) fn all_shown<J: Naming, S: Storage + Drop, R: Wait + Clock + AllocGlo
 ) -> Result<Vec<Shown>, AllocError> {
     let mut all = Vec::new(hub.rt.alloc());
     for line in hub.lines.all(hub.rt, hub.rt.alloc())? {
-        if let Some(one) = shown(hub, line)? {
+        if let Some(one) = stands(hub, line)? {
             all.push(one)?;
         }
     }
@@ -62,82 +52,80 @@ pub(crate) fn all_shown<J: Naming, S: Storage + Drop, R: Wait + Clock + AllocGlo
 }
 
 /// A receiver's line, to be read.
-fn receiver_text<R: AllocGlobal>(rt: &R, shown: &Shown) -> Result<String, AllocError> {
-    let name = shown.line.name.escape_ascii();
-    let address = shown.known.address.escape_ascii();
-    let stands = match (shown.seen.is_held, shown.seen.is_connected) {
+fn receiver_text<R: Clock + AllocGlobal>(rt: &R, shown: &Shown) -> Result<String, AllocError> {
+    let Shown {
+        line,
+        stand,
+        address,
+        left,
+        refused,
+    } = shown;
+    let (name, address) = (line.name.escape_ascii(), address.escape_ascii());
+    let stands = match (stand.is_held, stand.is_connected) {
         (true, _) => "held",
         (false, true) => "connected",
         (false, false) => "not connected",
     };
-    let (waiting, refused) = (shown.known.left, shown.known.refused);
-    let (stuck, taken) = (shown.seen.stuck, shown.seen.taken);
+    let (stuck, taken) = (stand.stuck(rt), stand.aa);
     format!(in rt.alloc();
-        "{name} at {address}: {stands}, {waiting} wait, the first for {stuck} s, taken {taken}, refused {refused}\n"
+        "{name} at {address}: {stands}, {left} wait, the first for {stuck} s, taken {taken}, refused {refused}\n"
     )
 }
 
 /// A receiver as JSON.
-fn receiver_json<R: AllocGlobal>(rt: &R, shown: &Shown) -> Result<String, AllocError> {
-    // (a name is letters, digits and `_`; an address is a word without quotes)
-    let name = shown.line.name.escape_ascii();
-    let (is_held, is_connected) = (shown.seen.is_held, shown.seen.is_connected);
-    let (waiting, refused) = (shown.known.left, shown.known.refused);
-    let (stuck, taken) = (shown.seen.stuck, shown.seen.taken);
+fn receiver_json<R: Clock + AllocGlobal>(rt: &R, shown: &Shown) -> Result<String, AllocError> {
+    let Shown {
+        line,
+        stand,
+        left,
+        refused,
+        ..
+    } = shown;
+    // (a name is letters, digits and `_`)
+    let name = line.name.escape_ascii();
+    let (is_held, is_connected) = (stand.is_held, stand.is_connected);
+    let (stuck, taken) = (stand.stuck(rt), stand.aa);
     format!(in rt.alloc();
-        "{{\"name\":\"{name}\",\"connected\":{is_connected},\"held\":{is_held},\"waiting\":{waiting},\"first_waits_seconds\":{stuck},\"taken\":{taken},\"refused\":{refused}}}"
+        "{{\"name\":\"{name}\",\"connected\":{is_connected},\"held\":{is_held},\"waiting\":{left},\"first_waits_seconds\":{stuck},\"taken\":{taken},\"refused\":{refused}}}"
     )
 }
 
-/// The gateway's state, to be read: a line for the whole, and one for each receiver.
-pub(crate) fn text<J: Naming, S: Storage + Drop, R: Wait + Clock + AllocGlobal>(
+/// The gateway's state: to be read, with a line for the whole and one for each receiver, or as JSON, in one line.
+pub(crate) fn state<J: Naming, S: Storage + Drop, R: Wait + Clock + AllocGlobal>(
     hub: &Hub<'_, J, S, R>,
+    is_json: bool,
 ) -> Result<String, AllocError> {
-    let Counters {
-        version,
+    let Figures {
+        plan,
+        open,
+        sessions,
         accepted,
         refused,
         is_short,
-    } = hub.counters();
-    let room = if is_short {
-        "short of room"
+        ..
+    } = figures_of(hub)?;
+    let alloc = hub.rt.alloc();
+    let room = if is_short { "is short of room" } else { "has room" };
+    let mut text = if is_json {
+        format!(in alloc;
+            "{{\"plan\":{plan},\"accepted\":{accepted},\"refused\":{refused},\"connections\":{open},\"sessions\":{sessions},\"short_of_room\":{is_short},\"receivers\":["
+        )?
     } else {
-        "has room"
+        format!(in alloc;
+            "plan {plan}, accepted {accepted}, refused {refused}, {open} connections of {sessions}, disk {room}\n"
+        )?
     };
-    let (open, sessions) = hub.lobby.counts(hub.rt);
-    let mut text = format!(in hub.rt.alloc();
-        "plan {version}, accepted {accepted}, refused {refused}, {open} connections of {sessions}, disk {room}\n"
-    )?;
+    let mut gap = "";
     for shown in &all_shown(hub)? {
-        let line = receiver_text(hub.rt, shown)?;
-        text.push_str(&line)?;
+        let receiver = if is_json {
+            receiver_json(hub.rt, shown)?
+        } else {
+            receiver_text(hub.rt, shown)?
+        };
+        text.push_str(gap)?;
+        text.push_str(&receiver)?;
+        gap = if is_json { "," } else { "" };
     }
-    Ok(text)
-}
-
-/// The gateway's state as JSON, in one line.
-pub(crate) fn json<J: Naming, S: Storage + Drop, R: Wait + Clock + AllocGlobal>(
-    hub: &Hub<'_, J, S, R>,
-) -> Result<String, AllocError> {
-    let Counters {
-        version,
-        accepted,
-        refused,
-        is_short,
-    } = hub.counters();
-    let (open, sessions) = hub.lobby.counts(hub.rt);
-    let mut text = format!(in hub.rt.alloc();
-        "{{\"plan\":{version},\"accepted\":{accepted},\"refused\":{refused},\"connections\":{open},\"sessions\":{sessions},\"short_of_room\":{is_short},\"receivers\":["
-    )?;
-    let mut is_first = true;
-    for shown in &all_shown(hub)? {
-        if !is_first {
-            text.push(',')?;
-        }
-        is_first = false;
-        let line = receiver_json(hub.rt, shown)?;
-        text.push_str(&line)?;
-    }
-    text.push_str("]}\n")?;
+    text.push_str(if is_json { "]}\n" } else { "" })?;
     Ok(text)
 }
