@@ -17,7 +17,7 @@ pub(crate) struct Next<'a, J: Naming> {
     front: Front<J>,
 }
 
-impl<J: Naming> Model for Next<'_, J> {
+impl<'a, J: Naming> Model for Next<'a, J> {
     ghost use Rattle.gw_delivery.specs.Waiting.{IsNextFor, NextState};
 
     ghost Value = { NextState };

@@ -101,17 +101,17 @@ impl<'a, J: Naming, S: Storage + Drop, V: Calls + Drop, R: Wait, L, T> Model
 
 /// How a receiver stands in the log: how many are left for it, and up to where the log counts.
 #[derive(Clone, Copy)]
-struct Look {
+struct Standing {
     left: u64,
     tail: Tail,
 }
 
 // How the receiver of this number stands, if it has a name.
-fn look<J: Naming, S: Storage + Drop>(office: &Office<J, S>, number: u32) -> Option<Look> {
+fn standing<J: Naming, S: Storage + Drop>(office: &Office<J, S>, number: u32) -> Option<Standing> {
     let (segment, end) = office.ledger.tail();
     for receiver in office.ledger.state().receivers() {
         if receiver.number() == number {
-            return Some(Look {
+            return Some(Standing {
                 left: receiver.left(),
                 tail: Tail { segment, end },
             });
@@ -203,15 +203,15 @@ impl<'a, J: Naming, S: Storage + Drop, V: Calls + Drop, R: Wait, L: Line, T: Tim
         }
     }
 
-    fn look(&self) -> Option<Look> {
+    fn standing(&self) -> Option<Standing> {
         let office = self.finder.journal.lock(self.finder.rt);
-        look(&office, self.receiver)
+        standing(&office, self.receiver)
     }
 
     // Keeps what was found, where it is this receiver's, from where what is left for it begins.
     fn keep(&mut self, next: Next<'a, J>) -> bool
-        requires { IsNone self.old.next }
-        requires { next.name ≡ self.old.name }
+        requires none { IsNone self.old.next }
+        requires name { next.name ≡ self.old.name }
         ensures kept { IsTrue result → Finds J.before self.old self.new }
         ensures same { IsFalse result → self.new ≡ self.old }
     {
@@ -270,14 +270,14 @@ impl<'a, J: Naming, S: Storage + Drop, V: Calls + Drop, R: Wait, L: Line, T: Tim
         if self.finder.aside.is_some() {
             return Err(OutboxFault::Record);
         }
-        let Some(look) = self.look() else {
+        let Some(standing) = self.standing() else {
             return Ok(false);
         };
-        self.line.stands(look.left, false);
-        if look.left == 0 {
+        self.line.stands(standing.left, false);
+        if standing.left == 0 {
             return Ok(false);
         }
-        self.read_on(look.tail)
+        self.read_on(standing.tail)
     }
 
     // Goes on behind this place, by the receipt for its pass. False: the receipt is of an earlier moment.
@@ -300,8 +300,8 @@ impl<'a, J: Naming, S: Storage + Drop, V: Calls + Drop, R: Wait, L: Line, T: Tim
 
     // How many are left is shown.
     fn show(&self) {
-        if let Some(look) = self.look() {
-            self.line.stands(look.left, true);
+        if let Some(standing) = self.standing() {
+            self.line.stands(standing.left, true);
         }
     }
 

@@ -35,7 +35,8 @@ impl<J: Naming, V: Calls + Drop> Walk<J, V> {
         &self.under
     }
 
-    fn damaged<T>(&self) -> Result<T, PageFault> {
+    /// Where it stands, as a fault.
+    pub(crate) fn damaged<T>(&self) -> Result<T, PageFault> {
         self.pages.damaged()
     }
 
