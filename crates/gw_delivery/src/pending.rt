@@ -107,7 +107,7 @@ struct Standing {
 }
 
 // How the receiver of this number stands, if it has a name.
-fn standing<J: Naming, S: Storage + Drop>(office: &Office<J, S>, number: u32) -> Option<Standing> {
+fn standing_of<J: Naming, S: Storage + Drop>(office: &Office<J, S>, number: u32) -> Option<Standing> {
     let (segment, end) = office.ledger.tail();
     for receiver in office.ledger.state().receivers() {
         if receiver.number() == number {
@@ -205,7 +205,7 @@ impl<'a, J: Naming, S: Storage + Drop, V: Calls + Drop, R: Wait, L: Line, T: Tim
 
     fn standing(&self) -> Option<Standing> {
         let office = self.finder.journal.lock(self.finder.rt);
-        standing(&office, self.receiver)
+        standing_of(&office, self.receiver)
     }
 
     // Keeps what was found, where it is this receiver's, from where what is left for it begins.
