@@ -1,4 +1,4 @@
-"""A gateway of the program in a folder, with its receivers, the lines that it prints, and the files of its spools. `.ci/gateways` plays with it."""
+"""A gateway of the program in a folder, with its receivers, the lines that it prints, and its log. `.ci/gateways` plays with it."""
 import contextlib
 import json
 import re

@@ -1,6 +1,7 @@
-"""Trials of a gateway under load: what ends a round, senders that send faster than one takes, or don't take their answers.
+"""Trials of a gateway under load: senders that send faster than one takes, that send long messages slowly, or don't take their answers.
 Also receivers that change places, and long translations. `.ci/gateways` plays them.
 """
+import contextlib
 import re
 import socket
 import struct
@@ -8,7 +9,6 @@ import threading
 import time
 from concurrent.futures import ThreadPoolExecutor
 
-from disks import entry
 from gateway import REPORT, Receiver
 from loopback import ANSWERS, Differs, same
 
@@ -44,7 +44,7 @@ def message(name, event=b"A01", sender=b"", bulk=b"", more=b""):
 
 
 def burst(gateway, receivers=20, senders=12, each=500):
-    """Messages come faster than a round ends, each for many receivers: all are answered AA, and wait for each receiver."""
+    """Messages come faster than they are answered, each for many receivers: all are answered AA, and wait for each receiver."""
     (gateway.room / "plan").write_text(plan_for({"R%02d" % it: NOBODY for it in range(receivers)}))
     gateway.start()
 
@@ -63,16 +63,10 @@ def burst(gateway, receivers=20, senders=12, each=500):
     gateway.kill()
 
 
-def is_in_round(gateway, number):
-    """Waits until this round has begun."""
-    same("round", True, gateway.once(True, lambda: gateway.status()["round"] >= number))
-
-
-def many_sessions(gateway, most=101_000, at_once=100):
-    """A round ends after 100,000 sessions: each has a part of the ledger, until the round's end."""
+def many_sessions(gateway, most=20_000, at_once=100):
+    """Sessions that send nothing, one after the other: none leaves anything behind."""
     (gateway.room / "plan").write_text(plan_for({"NOBODY": NOBODY}))
     gateway.start()
-    gateway.until += 120
     at, now = ("127.0.0.1", gateway.port), struct.pack("ii", 1, 0)
     for done in range(0, most, at_once):
         lines = [socket.create_connection(at, 5) for _ in range(at_once)]
@@ -83,25 +77,44 @@ def many_sessions(gateway, most=101_000, at_once=100):
         # (each has two lines)
         with gateway.news:
             gateway.news.wait_for(lambda: len(gateway.lines) >= 2 * done - 500, max(0, gateway.until - time.monotonic()))
-    is_in_round(gateway, 2)
     same("an answer", True, b"MSA|AA|M|" in (gateway.ask([message(b"M")])[0] or b"").replace(b"\r", b"|"))
+    same("connections that are open", 0, gateway.once(0, lambda: gateway.status()["connections"]))
     gateway.kill()
 
 
-def large_messages(gateway, receivers=100, size=1_000_000):
-    """A round ends after a number of bytes: its journal keeps each message, and a translation for each receiver."""
-    others = "".join(f"receiver R{it} {NOBODY}\n" for it in range(receivers))
-    (gateway.room / "plan").write_text(plan_for({"NOBODY": NOBODY}).replace("accept version", others + "accept version"))
+def slow_messages(gateway, slow=70, most=45):
+    """More senders than have a turn send long messages, and none ends its own: whoever sends short ones is answered at once, and memory has a bound.
+    Each of the long ones that ends is answered."""
+    (gateway.room / "plan").write_text(plan_for({"NOBODY": NOBODY}))
     gateway.start()
-    line = gateway.client()
-    for at in range(8):
-        same("an answer", True, b"MSA|AA|M%d\r" % at in (line.ask([message(b"M%d" % at, bulk=b"x" * size)])[0] or b""))
-    is_in_round(gateway, 2)
+    gateway.until += 60
+    whole, lines = message(b"SLOW", bulk=b"x" * 900_000), [gateway.client() for _ in range(slow)]
+    senders = [threading.Thread(target=it.send, args=(whole[:-3],), daemon=True) for it in lines]
+    for sender in senders:
+        sender.start()
+    time.sleep(3)
+    short, since = gateway.client(), time.monotonic()
+    for at in range(20):
+        same("a short message's answer", True, b"MSA|AA|S%d\r" % at in (short.ask([message(b"S%d" % at)])[0] or b""))
+    if time.monotonic() - since > 10:
+        raise Differs(f"20 short messages took {time.monotonic() - since:.1f} s")
+    size = int(re.search(r"VmRSS:\s+(\d+) kB", open(f"/proc/{gateway.process.pid}/status").read())[1])
+    if size > 400_000:
+        raise Differs(f"the gateway has {size} kB")
+    answered = 0
+    for line in lines:
+        with contextlib.suppress(OSError):
+            line.send(whole[-3:])
+    for line in lines:
+        with contextlib.suppress(OSError):
+            answered += b"MSA|AA|SLOW\r" in (line.block() or b"")
+    same("long messages that were answered AA", slow, answered)
     gateway.kill()
 
 
-def deaf(gateway, most=5):
-    """A sender takes none of its answers. At the end of a round it is waited for a second: the others are answered, and its session ends."""
+def deaf(gateway, most=3):
+    """A sender takes none of its answers: the others are answered and plans are swapped in meanwhile. Its session ends after a minute."""
+    gateway.until += 30
     gateway.play(WARDS=Receiver(), ARCHIVE=Receiver())
     gateway.start()
     line = gateway.client()
@@ -119,12 +132,12 @@ def deaf(gateway, most=5):
             raise Differs("its answers were taken")
         except TimeoutError:
             pass
-        same("swaps", [f"swapped {it + 1}\n" for it in range(20)], [gateway.tell("swap", "plan")[1] for _ in range(20)])
-        since = time.monotonic()
-        is_in_round(gateway, 2)
-        answer = line.ask([REPORT])[0]
-        if time.monotonic() - since > most:
-            raise Differs(f"the round, and an answer in the next, took {time.monotonic() - since:.1f} s")
+        for _ in range(20):
+            since = time.monotonic()
+            same("swap", 0, gateway.tell("swap", "plan")[0])
+            answer = line.ask([REPORT])[0]
+            if time.monotonic() - since > most:
+                raise Differs(f"a swap, and an answer, took {time.monotonic() - since:.1f} s")
         same("the answer's code", [b"AA"], re.findall(rb"MSA\|(\w+)\|", answer))
         gateway.wait("session 2: its sender didn't take an answer in time")
         gateway.wait("session 2 ended: fault 3: the writer failed")
@@ -148,23 +161,9 @@ def long_translation(gateway, results=5_000):
     gateway.wait("receiver ONE: 2 messages wait in folder")
     one.open(one.port)
     one.has(stated, gateway.until)
-    gateway.wait("receiver ONE answered AE: the message is in folder/refused/ONE.mllp")
+    gateway.wait(r"receiver ONE answered AE: the message is at place \d+ of the log in folder")
     same("resend", (0, "resent 1\n"), gateway.tell("resend", "ONE"))
     one.has([*stated, stated[0]], gateway.until)
-    gateway.kill()
-
-
-def unsendable(gateway):
-    """A record that can't be sent is kept with what its receiver refused, and the next is sent."""
-    one, records = Receiver(), [b"no message", message(b"NEXT")[1:-2]]
-    gateway.receivers = {"ONE": one}
-    (gateway.room / "plan").write_text(plan_for({"ONE": one.address}))
-    (gateway.folder / "spool/ONE").mkdir(parents=True)
-    (gateway.folder / "spool/ONE/1").write_bytes(b"".join(map(entry, records)))
-    gateway.start()
-    one.has([b"\x0b" + records[1] + b"\x1c\r"], gateway.until)
-    gateway.wait("receiver ONE isn't sent a message whose header can't be read: the message is in folder/refused/ONE.mllp")
-    same("what isn't sent", b"\x0b" + records[0] + b"\x1c\r", (gateway.folder / "refused/ONE.mllp").read_bytes())
     gateway.kill()
 
 

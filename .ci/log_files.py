@@ -98,7 +98,7 @@ def retired(time, below):
 
 
 def state(next_place, receivers, plan=None, last=None, below=0, oldest=0):
-    """A checkpoint: receivers by their number, name and address, for which nothing is left."""
+    """A checkpoint: receivers by their number, name and address, from which place on something is left, how much, and how many they refused."""
     perhaps = (b"\x00" if it is None else b"\x01" + number(it) for it in (plan, last))
-    each = (number(it, 4) + text(its) + text(address) + number(0) * 3 for it, its, address in receivers)
+    each = (number(it, 4) + text(its) + text(address) + b"".join(map(number, [*counts, 0, 0, 0][:3])) for it, its, address, *counts in receivers)
     return number(next_place) + b"".join(perhaps) + number(below) + number(oldest) + number(len(receivers), 4) + b"".join(each)

@@ -6,9 +6,11 @@
 
 mod fault;
 mod finder;
+mod keeping;
 mod made;
 mod next;
 mod pages;
+mod past;
 mod pending;
 mod plans;
 mod sight;
@@ -16,6 +18,8 @@ mod under;
 mod walk;
 
 pub use fault::PageFault;
+pub use keeping::Keeper;
 pub use pages::{Page, Pages, Tail};
+pub use past::{Past, left_from};
 pub use pending::{Line, Pending};
 pub use plans::Plans;

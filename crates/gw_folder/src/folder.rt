@@ -26,6 +26,11 @@ pub(crate) fn disk_fault(failure: Failure) -> DiskFault {
     }
 }
 
+// Whether a disk, or what a user may have of it, is full.
+fn is_full(kind: ErrorKind) -> bool {
+    matches!(kind, ErrorKind::StorageFull | ErrorKind::QuotaExceeded)
+}
+
 impl<'a, R: Files<File = File> + AllocGlobal + Clone + Drop> RealFolder<'a, R> {
     /// Locks the folder at this path, which has to be there, and brings its files and their names to the disk.
     pub fn open(rt: &'a R, path: &str) -> Result<Self, OpenFault> {
@@ -58,6 +63,18 @@ impl<R: Files<File = File> + AllocGlobal> RealFolder<'_, R> {
             Some(file) => file.write_all_at(bytes, at as u64),
             None => Err(io::Error::from(ErrorKind::NotFound)),
         }
+    }
+
+    // Writes all, into the room that is kept free where there is no other.
+    fn write_somehow(&mut self, number: u64, at: usize, bytes: &[u8]) -> io::Result<()> {
+        let written = self.write_all(number, at, bytes);
+        if let Err(error) = &written
+            && is_full(error.kind())
+            && self.shelf.give_up_room().unwrap_or(false)
+        {
+            return self.write_all(number, at, bytes);
+        }
+        written
     }
 
     fn cut_to(&mut self, number: u64, len: usize) -> io::Result<()> {
@@ -113,7 +130,7 @@ impl<R: Files<File = File> + AllocGlobal + Clone + Drop> Calls for RealFolder<'_
     }
 
     fn write_at(&mut self, number: u64, at: usize, bytes: &[u8]) -> bool {
-        let written = self.write_all(number, at, bytes);
+        let written = self.write_somehow(number, at, bytes);
         self.shelf.note(Asked::Write, Some(number), written).is_ok()
     }
 

@@ -228,6 +228,17 @@ impl<'a, R: Files<File = File> + AllocGlobal> Shelf<'a, R> {
         }
     }
 
+    /// Gives up the room that the folder keeps free in its file `reserve`. False: it keeps none.
+    pub(crate) fn give_up_room(&self) -> io::Result<bool> {
+        let path = format!(in self.rt.alloc(); "{}/reserve", self.path)?;
+        let file = OpenOptions::new().write(true).open(self.rt, path.as_str())?;
+        if file.metadata()?.len() == 0 {
+            return Ok(false);
+        }
+        file.set_len(0)?;
+        Ok(true)
+    }
+
     // How many bytes a file has that may not be there any more.
     fn bytes_of(&self, number: u64) -> io::Result<u64> {
         match metadata(self.rt, self.path_of(number)?.as_str()) {

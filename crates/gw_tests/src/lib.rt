@@ -42,8 +42,6 @@ mod served;
 #[cfg(test)]
 mod sessions;
 #[cfg(test)]
-mod spools;
-#[cfg(test)]
 mod streams;
 #[cfg(test)]
 mod subjects;

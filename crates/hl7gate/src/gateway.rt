@@ -2,30 +2,24 @@
 //!
 //! Its log is its journal. A sender's message is appended to it, and answered once it is on the disk. For each receiver a forwarder reads the log on,
 //! and sends what the plan of each message makes of it, over connections that it makes anew.
-mod clock;
 mod command;
 mod control;
 mod folder;
 mod forwarders;
 mod hub;
-mod keeping;
 mod late;
 mod lines;
 mod links;
-mod lobby;
 mod opening;
 mod overlong;
 mod page;
-mod past;
 mod plans;
 mod refusals;
 mod resend;
 mod senders;
 mod sent;
 mod status;
-mod tell;
-mod turns;
 mod watch;
 
 pub(crate) use command::gateway;
-pub(crate) use tell::send;
+pub(crate) use control::control_path;

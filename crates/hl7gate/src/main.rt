@@ -30,25 +30,27 @@ mod sockets;
 mod stamps;
 mod streams;
 mod swaps;
+mod tell;
 mod threads;
 mod tickets;
 
 use arguments::{parse, process_words};
 use clap::ArgMatches;
 use ended::Ended;
-use gateway::{gateway, send};
+use gateway::gateway;
 use heap::keep_freed;
 use program::command;
 use report::{USAGE, print_unread_words, print_words, status_of};
 use runtime::Runtime;
 use serve::serving;
-use std::marker::Brand;
 use std::io::{IsTerminal, Read, Write};
+use std::marker::Brand;
 use std::net::{Net, TcpListener, TcpStream};
 use std::process::ExitCode;
 use std::sync::Wait;
 use std::thread::Threads;
 use streams::open_closed;
+use tell::send;
 
 /// Whether a command takes the network, or threads.
 fn is_networked(name: &str) -> bool {

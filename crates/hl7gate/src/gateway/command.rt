@@ -2,27 +2,22 @@
 ghost use Rattle.std.specs.Thread.{IsSend, IsSync};
 
 use crate::ended::Ended;
-use crate::gateway::clock::microseconds;
-use crate::gateway::control;
 use crate::gateway::control::{attend_all, control_path};
 use crate::gateway::folder::{Folder, Room, refuse_spools};
 use crate::gateway::forwarders::forward_all;
 use crate::gateway::hub::Hub;
-use crate::gateway::keeping::look_at_files;
-use crate::gateway::late::look_at_all;
-use crate::gateway::lobby::Guest;
-use crate::gateway::opening;
-use crate::gateway::opening::Opened as Log;
+use crate::gateway::late::{look_at_all, look_at_files};
+use crate::gateway::opening::{Opened as Log, plan_of};
 use crate::gateway::page::{Pages, show_all};
-use crate::gateway::past::plan_of;
 use crate::gateway::plans::begin_lines;
-use crate::gateway::senders::{accept_all, attend};
+use crate::gateway::senders::{attend, next_sender};
+use crate::gateway::{control, opening};
 use crate::plans::read_plan;
 use crate::report::DONE;
 use crate::runtime::Runtime;
 use crate::serve::count_or;
-use crate::sockets::listen;
-use crate::stamps::stamp_of;
+use crate::sockets::{listen, listen_briefly};
+use crate::stamps::{microseconds, stamp_of};
 use clap::ArgMatches;
 use gw_ack::Stamp;
 use gw_gateway::{ByPlans, Office, PutFault};
@@ -32,6 +27,7 @@ use gw_plan::Plan;
 use gw_stream::RunFault;
 use std::io::Eprint;
 use std::net::{Net, TcpListener, TcpStream};
+use std::os::fd::AsRawFd;
 use std::os::unix::net::UnixListener;
 use std::sync::{Arc, Wait};
 use std::thread;
@@ -96,7 +92,10 @@ fn look_at_disk<J: Naming, S: Storage + Drop, R: Wait + Clock + Eprint>(hub: &Hu
     }
     hub.set_room(is_short, is_full);
     if hub.folder.turn_long() {
-        let _ = eprintln!(hub.rt; "{}/refusals.log has 64 MB: no line is added until it is cut", hub.folder.path);
+        let _ = eprintln!(hub.rt;
+            "{}/refusals.log has 64 MB: no line is added until it is cut",
+            hub.folder.path
+        );
     }
 }
 
@@ -121,17 +120,14 @@ fn go_on<
     J: Naming + Send + Sync,
     S: Storage + Drop + Send + Sync,
     R: Runtime + Threads + Wait + Net<Stream = TcpStream, Listener = TcpListener>,
->(
-    hub: &Hub<'_, J, S, R>,
-    ports: Ports,
-    most: u64,
-) {
+>(hub: &Hub<'_, J, S, R>, ports: Ports, most: u64) {
     let Ports {
         senders,
         control,
         pages,
     } = ports;
     let (control, pages) = (&control, pages.as_ref());
+    listen_briefly(senders.as_raw_fd());
     // (before anything is sent)
     look_at_disk(hub);
     thread::scope(
@@ -149,42 +145,39 @@ fn go_on<
             let show = move ||
                 requires { IsSend S.row × IsSync S.row × IsSync R.row }
             { show_all(hub, pages) };
-            let accept = move ||
-                requires { IsSend S.row × IsSync S.row × IsSync R.row }
-            { accept_all(hub, senders, most) };
             let has_all = scope.spawn(look).is_ok()
                 && scope.spawn(hear).is_ok()
-                && scope.spawn(show).is_ok()
-                && scope.spawn(accept).is_ok();
+                && scope.spawn(show).is_ok();
             if !has_all {
                 hub.fail(RunFault::Memory);
             }
             for _ in hub.rt.forever() {
-                match hub.lobby.next(hub.rt, Duration::from_millis(100)) {
-                    Some(Guest::Sender(sender)) => {
-                        let attend_one = move ||
-                            requires { IsSend S.row × IsSync S.row × IsSync R.row }
-                        { attend(hub, sender) };
-                        if scope.spawn(attend_one).is_err() {
-                            let _ = eprintln!(hub.rt; "no thread can be started for a connection");
-                            hub.lobby.leave(hub.rt);
-                        }
+                if hub.has_ended() {
+                    break;
+                }
+                if let Some(line) = hub.lines.next_new(hub.rt) {
+                    let send = move ||
+                        requires { IsSend S.row × IsSync S.row × IsSync R.row }
+                    { forward_all(hub, line) };
+                    if scope.spawn(send).is_err() {
+                        hub.fail(RunFault::Memory);
                     }
-                    Some(Guest::Line(line)) => {
-                        let send = move ||
-                            requires { IsSend S.row × IsSync S.row × IsSync R.row }
-                        { forward_all(hub, line) };
-                        if scope.spawn(send).is_err() {
-                            hub.fail(RunFault::Memory);
-                        }
-                    }
-                    None => {
-                        if hub.has_ended() {
-                            break;
-                        }
+                    continue;
+                }
+                if let Some(sender) = next_sender(hub, &senders, most) {
+                    let attend_one = move ||
+                        requires { IsSend S.row × IsSync S.row × IsSync R.row }
+                    { attend(hub, sender) };
+                    if scope.spawn(attend_one).is_err() {
+                        let _ = eprintln!(hub.rt;
+                            "no thread can be started for a connection: it is closed"
+                        );
+                        hub.leave();
                     }
                 }
             }
+            // (who connects from here on is refused)
+            drop(senders);
         },
     );
 }
@@ -196,7 +189,10 @@ fn print_waiting<J: Naming, S: Storage + Drop, R: Wait + Eprint>(hub: &Hub<'_, J
         let (left, refused) = (receiver.left(), receiver.refused());
         if left > 0 {
             let name = receiver.name().escape_ascii();
-            let _ = eprintln!(hub.rt; "receiver {name}: {left} messages wait in {}", hub.folder.path);
+            let _ = eprintln!(hub.rt;
+                "receiver {name}: {left} messages wait in {}",
+                hub.folder.path
+            );
         }
         if refused > 0 {
             let name = receiver.name().escape_ascii();
@@ -250,8 +246,11 @@ pub(crate) fn gateway<
     begin_lines(&hub)?;
     let ports = Ports::open(rt, words, &folder)?;
     go_on(&hub, ports, most);
-    match hub.fault() {
-        None => Ok(DONE),
-        Some(fault) => Err(Ended::Run(fault)),
+    let Some(fault) = hub.fault() else {
+        return Ok(DONE);
+    };
+    if fault == RunFault::Write {
+        let _ = eprintln!(rt; "{path}: the log can't be written any more: look at its disk, and whether it is where it was");
     }
+    Err(Ended::Run(fault))
 }

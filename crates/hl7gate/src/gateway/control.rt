@@ -1,11 +1,10 @@
 //! Words to a running gateway, over the socket FOLDER/control: a line comes, an answer goes back, and the connection ends.
 use crate::gateway::hub::Hub;
-use crate::gateway::links::listen_briefly;
 use crate::gateway::plans::take_file;
 use crate::gateway::resend::resend;
-use crate::gateway::status;
+use crate::gateway::status::state;
 use crate::runtime::Runtime;
-use crate::sockets::pause;
+use crate::sockets::{listen_briefly, pause};
 use gw_journal::{Naming, Storage};
 use std::alloc::{AllocError, Global};
 use std::fs::{File, Permissions};
@@ -76,8 +75,8 @@ fn answer<J: Naming, S: Storage + Drop, R: Runtime + Wait>(
     let alloc = hub.rt.alloc();
     let (word, rest) = line.split_once(' ').unwrap_or((line, ""));
     match (word, rest) {
-        ("status", "") => status::text(hub),
-        ("status", "--json") => status::json(hub),
+        ("status", "") => state(hub, false),
+        ("status", "--json") => state(hub, true),
         ("install", path) if !path.is_empty() => take_file(hub, path, true),
         ("swap", path) if !path.is_empty() => take_file(hub, path, false),
         ("stop", "") => {

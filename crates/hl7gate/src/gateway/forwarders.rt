@@ -1,14 +1,14 @@
 //! Forwarders: each sends one receiver what is due to it, over a connection that is made anew whenever it ends.
-use crate::gateway::clock::Now;
 use crate::gateway::hub::Hub;
 use crate::gateway::lines::Line;
-use crate::gateway::links::{Answers, Records, connect, is_ended};
+use crate::gateway::links::{Answers, Records, connect};
 use crate::runtime::Runtime;
+use crate::sockets::is_ended;
+use crate::stamps::Utc;
 use gw_ack::Ack;
 use gw_delivery::{Line as Forwarded, PageFault, Pending};
 use gw_folder::FolderView;
-use gw_forward::{Ended, ForwardFault, Outbox, StoreFault, forward};
-
+use gw_forward::{Ended, ForwardFault, Outbox, OutboxFault, forward};
 use gw_journal::{Naming, Storage};
 use gw_stream::{Reads, RunFault, Writes};
 use std::alloc::AllocError;
@@ -87,10 +87,24 @@ impl<J: Naming, S: Storage + Drop, R: Wait + Clock + Eprint> Forwarded for Here<
         );
     }
 
+    fn unsendable(&self, place: u64, fault: Option<PageFault>) {
+        let name = self.line.name.escape_ascii();
+        let folder = &self.hub.folder.path;
+        let _ = match fault {
+            Some(fault) => eprintln!(self.hub.rt;
+                "receiver {name} isn't sent the message at place {place} of the log in {folder}: {fault}"
+            ),
+            None => eprintln!(self.hub.rt;
+                "receiver {name} isn't sent the message at place {place} of the log in {folder}: no block can have it"
+            ),
+        };
+    }
+
     fn failed(&self, fault: PageFault) {
         let name = self.line.name.escape_ascii();
         let _ = eprintln!(self.hub.rt;
-            "receiver {name}: {fault}\n{}: see hl7gate log", self.hub.folder.path
+            "receiver {name}: {fault}\n{}: see hl7gate log",
+            self.hub.folder.path
         );
     }
 }
@@ -159,10 +173,9 @@ impl<
                     self.wait();
                 }
                 Err(ForwardFault::Record { .. }) => match outbox.put_aside() {
-                    Ok(true) => {}
-                    Ok(false) => self.wait(),
-                    Err(StoreFault::Memory) => return self.ended_by(ForwardFault::Memory),
-                    Err(StoreFault::Disk) => return self.ended_by(ForwardFault::Disk),
+                    Ok(()) => {}
+                    Err(OutboxFault::Memory) => return self.ended_by(ForwardFault::Memory),
+                    Err(_) => return self.ended_by(ForwardFault::Disk),
                 },
                 Err(fault) => return self.ended_by(fault),
             }
@@ -198,7 +211,9 @@ impl<
             }
             ForwardFault::Memory => eprintln!(hub.rt; "receiver {name}: out of memory; it goes on"),
             _ if self.sent.get() => {
-                eprintln!(hub.rt; "receiver {name} did not acknowledge a message; it is connected anew")
+                eprintln!(hub.rt;
+                    "receiver {name} did not acknowledge a message; it is connected anew"
+                )
             }
             _ => eprintln!(hub.rt; "receiver {name} ended its connection; it is connected anew"),
         };
@@ -236,45 +251,33 @@ impl<
                 line.wait(rt);
                 continue;
             };
+            let (name, at) = (line.name.escape_ascii(), address.escape_ascii());
             if let Some(stream) = connect(rt, &address) {
                 is_down = false;
-                self.print_connected(&address);
+                let _ = eprintln!(rt; "receiver {name} at {at} connected");
+                if self.sent.get() {
+                    let name = line.name.escape_ascii();
+                    let _ = eprintln!(rt;
+                        "receiver {name}: a message is sent that it may have already: it wasn't acknowledged"
+                    );
+                }
                 if let Ok(After::Nothing) = self.go_over(outbox, stream) {
                     return;
                 }
             } else if !is_down {
                 is_down = true;
-                self.print_down(&address);
+                let _ = eprintln!(rt;
+                    "receiver {name} can't be connected; it is tried until it is\n{at}: can't be connected"
+                );
             }
             self.wait();
-        }
-    }
-
-    fn print_down(&self, address: &[u8]) {
-        let name = self.here.line.name.escape_ascii();
-        let address = address.escape_ascii();
-        let _ = eprintln!(self.here.hub.rt;
-            "receiver {name} can't be connected; it is tried until it is\n{address}: can't be connected"
-        );
-    }
-
-    fn print_connected(&self, address: &[u8]) {
-        let rt = self.here.hub.rt;
-        let name = self.here.line.name.escape_ascii();
-        let address = address.escape_ascii();
-        let _ = eprintln!(rt; "receiver {name} at {address} connected");
-        if self.sent.get() {
-            let name = self.here.line.name.escape_ascii();
-            let _ = eprintln!(rt;
-                "receiver {name}: a message is sent that it may have already: it wasn't acknowledged"
-            );
         }
     }
 }
 
 /// An outbox of which a record that can't be sent is put aside.
 trait Aside {
-    fn put_aside(&mut self) -> Result<bool, StoreFault>;
+    fn put_aside(&mut self) -> Result<(), OutboxFault>;
 }
 
 impl<
@@ -285,7 +288,7 @@ impl<
     L: Forwarded,
     T: gw_gateway::Times,
 > Aside for Pending<'_, J, S, V, R, L, T> {
-    fn put_aside(&mut self) -> Result<bool, StoreFault> {
+    fn put_aside(&mut self) -> Result<(), OutboxFault> {
         Pending::put_aside(self)
     }
 }
@@ -295,16 +298,12 @@ fn forward_by<
     J: Naming,
     S: Storage + Drop,
     R: Runtime + Wait + Net<Stream = TcpStream, Listener = TcpListener>,
->(
-    hub: &Hub<'_, J, S, R>,
-    line: &Line,
-) -> bool {
+>(hub: &Hub<'_, J, S, R>, line: &Line) -> bool {
     let alloc = hub.rt.alloc();
     let path = hub.folder.path.as_str();
-    let (Ok(view), Ok(other), Ok(name)) = (
+    let (Ok(view), Ok(other)) = (
         FolderView::beside(hub.rt, path),
         FolderView::beside(hub.rt, path),
-        Vec::from_slice(alloc, &line.name),
     ) else {
         return false;
     };
@@ -316,7 +315,7 @@ fn forward_by<
         stream: Cell::new(None),
         is_over: Cell::new(false),
     };
-    let times = Now::new(hub.rt, hub.start);
+    let times = Utc::new(hub.rt, hub.start);
     let mut outbox = Pending::new(
         hub.rt,
         alloc,
@@ -326,7 +325,7 @@ fn forward_by<
         &times,
         (view, other),
         line.number,
-        name,
+        &line.name,
         &sent,
     );
     let mut forwarder = Forwarder {
@@ -343,10 +342,7 @@ pub(crate) fn forward_all<
     J: Naming,
     S: Storage + Drop,
     R: Runtime + Wait + Net<Stream = TcpStream, Listener = TcpListener>,
->(
-    hub: &Hub<'_, J, S, R>,
-    line: Arc<Line>,
-) {
+>(hub: &Hub<'_, J, S, R>, line: Arc<Line>) {
     for _ in hub.rt.forever() {
         if hub.has_ended() || forward_by(hub, &line) {
             return;

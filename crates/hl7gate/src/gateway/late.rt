@@ -1,10 +1,14 @@
-//! Receivers whose first message waits for long.
+//! What is looked at from time to time: receivers whose first message waits for long, and files that nobody needs.
 use crate::gateway::hub::Hub;
 use crate::gateway::lines::Line;
 use crate::stamps::stamp_of;
+use gw_delivery::{Keeper, left_from};
+use gw_folder::FolderView;
 use gw_journal::{Naming, Storage};
 use std::alloc::AllocError;
+use std::fs::File;
 use std::io::Eprint;
+use std::rt::Files;
 use std::sync::Wait;
 use std::time::Clock;
 
@@ -46,4 +50,41 @@ pub(crate) fn look_at_all<J: Naming, S: Storage + Drop, R: Wait + Clock + Eprint
             let _ = report(hub, line, waiting, is_late);
         }
     }
+}
+
+/// Where what is left for receivers begins, or will begin; and the place of the next record.
+fn left<J: Naming, S: Storage + Drop, R: Wait>(hub: &Hub<'_, J, S, R>) -> (u64, u64) {
+    let office = hub.journal.lock(hub.rt);
+    let state = office.ledger.state();
+    (left_from(state).unwrap_or(state.next()), state.next())
+}
+
+/// Has the files go that aren't needed: they go when the next file is begun. None: what was read of them has to be read again.
+pub(crate) fn look_at_files<
+    'f,
+    J: Naming,
+    S: Storage + Drop,
+    R: Wait + Files<File = File> + AllocGlobal + Clone + Drop,
+>(
+    hub: &Hub<'f, J, S, R>,
+    keeper: Option<Keeper<FolderView<'f, R>>>,
+) -> Option<Keeper<FolderView<'f, R>>> {
+    let mut keeper = match keeper {
+        Some(keeper) => keeper,
+        None => {
+            let view = FolderView::beside(hub.rt, &hub.folder.path).ok()?;
+            Keeper::new(hub.rt.alloc(), view)
+        }
+    };
+    // (what comes to be left or refused after this look stands there, or behind it)
+    let (left, next) = left(hub);
+    match keeper.read_to(hub.tail(), next) {
+        Ok(true) => {
+            let needed = keeper.needed(left);
+            hub.journal.lock(hub.rt).ledger.keep_from(needed);
+        }
+        Ok(false) => {}
+        Err(_) => return None,
+    }
+    Some(keeper)
 }

@@ -1,6 +1,7 @@
 //! The receivers' lines: what the program knows of each beside the log.
 use gw_ack::Ack;
 use std::alloc::{AllocError, Global};
+use std::sync::atomic::{AtomicUsize, Ordering};
 use std::sync::{Arc, Condvar, CondvarTimeouts, Mutex, Wait};
 use std::time::{Clock, Duration, Instant};
 
@@ -175,17 +176,27 @@ impl Line {
     }
 }
 
-/// The lines, in the order in which they were begun. None is ever taken out.
+/// The lines, in the order in which they were added, and how many of them have a forwarder. None is ever taken out.
 #[derive(Drop)]
 pub(crate) struct Lines {
     all: Mutex<Vec<Arc<Line>>>,
+    begun: AtomicUsize,
 }
 
 impl Lines {
     pub(crate) fn new(alloc: Global) -> Self {
         Lines {
             all: Mutex::new(Vec::new(alloc)),
+            begun: AtomicUsize::new(0),
         }
+    }
+
+    /// The next line that gets a forwarder, where one is new.
+    pub(crate) fn next_new<R: Wait>(&self, rt: &R) -> Option<Arc<Line>> {
+        let all = self.all.lock(rt);
+        let next = all.get(self.begun.load(Ordering::SeqCst))?.clone().ok()?;
+        self.begun.fetch_add(1, Ordering::SeqCst);
+        Some(next)
     }
 
     pub(crate) fn add<R: Wait>(&self, rt: &R, line: Arc<Line>) -> Result<(), AllocError> {
@@ -212,11 +223,7 @@ impl Lines {
     }
 
     /// A copy of the list.
-    pub(crate) fn all<R: Wait>(
-        &self,
-        rt: &R,
-        alloc: Global,
-    ) -> Result<Vec<Arc<Line>>, AllocError> {
+    pub(crate) fn all<R: Wait>(&self, rt: &R, alloc: Global) -> Result<Vec<Arc<Line>>, AllocError> {
         let mut copies = Vec::new(alloc);
         for line in self.all.lock(rt).iter() {
             copies.push(line.clone()?)?;

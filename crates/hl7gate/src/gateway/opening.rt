@@ -1,14 +1,20 @@
-//! How the log of a folder is opened, or begun.
+//! How the log of a folder is opened, or begun, and which plan a start takes.
 use crate::ended::Ended;
+use crate::plans::parse_plan;
 use crate::runtime::Runtime;
+use clap::ArgMatches;
+use gw_delivery::{PageFault, Past, Tail};
 use gw_due::{State, start};
-use gw_folder::{OpenFault, RealFolder};
+use gw_folder::{FolderView, OpenFault, RealFolder, find_id};
 use gw_journal::{JournalFault, Stored, Summary};
-use gw_log::{Disk, LogFault, Reader, Recorded, read_head};
+use gw_log::{Disk, LogFault, Recorded};
+use gw_plan::Plan;
 use gw_stream::RunFault;
 use std::alloc::Global;
+use std::fmt::Display;
 use std::marker::Brand;
 use std::random::RandomSource;
+use std::sync::Arc;
 
 /// A log that is open, and the state of what stands in it.
 #[derive(Drop)]
@@ -17,60 +23,28 @@ pub(crate) struct Opened<K: Summary, D: Disk> {
     pub(crate) state: State,
 }
 
-/// What a fault of a folder is to who asked.
-fn unopened<'a>(alloc: Global, path: &'a str, fault: OpenFault) -> Ended<'a> {
-    match fault {
-        OpenFault::Memory => Ended::Run(RunFault::Memory),
-        OpenFault::Taken => Ended::Taken { path },
-        fault => match format!(in alloc; "{path}: {fault}") {
-            Ok(said) => Ended::Unlisted { said },
-            Err(_) => Ended::Run(RunFault::Memory),
-        },
-    }
-}
-
-/// What a fault of a log is to who asked.
-fn damaged<'a>(alloc: Global, path: &str, fault: LogFault) -> Ended<'a> {
-    if fault == LogFault::Memory {
-        return Ended::Run(RunFault::Memory);
-    }
+/// That this was said of the folder at a path.
+fn unlisted<'a, F: Display + Drop>(alloc: Global, path: &str, fault: F) -> Ended<'a> {
     match format!(in alloc; "{path}: {fault}\n{path}: `hl7gate log {path}` says more") {
         Ok(said) => Ended::Unlisted { said },
         Err(_) => Ended::Run(RunFault::Memory),
     }
 }
 
-/// The number of the log that a file belongs to, by its head.
-fn id_in<D: Disk + Drop>(alloc: Global, disk: D, number: u64) -> (Option<u64>, D) {
-    let mut disk = disk;
-    let Ok(size) = disk.size(number) else {
-        return (None, disk);
-    };
-    let mut reader = Reader::at(alloc, disk, number, 0, size.saturating_sub(1));
-    let id = match reader.next() {
-        Ok(Some(bytes)) => match read_head(&bytes) {
-            Some(head) => Some(head.id),
-            None => None,
-        },
-        _ => None,
-    };
-    (id, reader.into_disk())
+/// What a fault of a folder is to who asked.
+fn unopened<'a>(alloc: Global, path: &'a str, fault: OpenFault) -> Ended<'a> {
+    match fault {
+        OpenFault::Memory => Ended::Run(RunFault::Memory),
+        OpenFault::Taken => Ended::Taken { path },
+        fault => unlisted(alloc, path, fault),
+    }
 }
 
-/// The number of the log of a folder. None: the folder has no file.
-fn find_id<D: Disk + Drop>(alloc: Global, disk: D) -> Result<(Option<u64>, D), LogFault> {
-    let mut disk = disk;
-    let (first, last) = disk.ends()?;
-    if first > last {
-        return Ok((None, disk));
-    }
-    let (id, disk) = id_in(alloc, disk, first);
-    match id {
-        Some(id) => Ok((Some(id), disk)),
-        None => Err(LogFault::Damaged {
-            segment: first,
-            at: 0,
-        }),
+/// What a fault of a log is to who asked.
+fn damaged<'a>(alloc: Global, path: &str, fault: LogFault) -> Ended<'a> {
+    match fault {
+        LogFault::Memory => Ended::Run(RunFault::Memory),
+        fault => unlisted(alloc, path, fault),
     }
 }
 
@@ -101,10 +75,7 @@ fn open_over<'a, K: Summary, D: Disk + Drop, R: Runtime>(
         Err((fault, _disk)) => Err(damaged(alloc, path, fault)),
         Ok((stored, last)) => match start(alloc, last.checkpoint(), last.records()) {
             Ok(state) => Ok(Opened { stored, state }),
-            Err(fault) => {
-                let said = format!(in alloc; "{path}: the last file of the log: {fault}")?;
-                Err(Ended::Unlisted { said })
-            }
+            Err(fault) => Err(unlisted(alloc, path, fault)),
         },
     }
 }
@@ -138,4 +109,70 @@ pub(crate) fn open<'r, 'a, K: Summary, R: Runtime>(
         Err(fault) => return Err(unopened(rt.alloc(), path, fault)),
     };
     open_over(rt, path, Recorded::<_, Brand>::new(folder))
+}
+
+/// Why what is left can't be sent.
+fn unsent<'a>(alloc: Global, path: &str, fault: PageFault) -> Ended<'a> {
+    let PageFault::Plan { place } = fault else {
+        return match fault {
+            PageFault::Memory => Ended::Run(RunFault::Memory),
+            fault => unlisted(alloc, path, fault),
+        };
+    };
+    match format!(in alloc;
+        "{path}: this hl7gate refuses the plan at place {place} of the log, under which messages wait\n{path}: start the hl7gate that took it, and let it deliver first"
+    ) {
+        Ok(said) => Ended::Unlisted { said },
+        Err(_) => Ended::Run(RunFault::Memory),
+    }
+}
+
+/// The text of the plan in force by the log, where it has one. All that is left was looked at: it is under plans that this program takes.
+fn text_in_force<'a, R: Runtime>(
+    rt: &R,
+    path: &str,
+    state: &State,
+    (segment, end): (u64, usize),
+) -> Result<Option<(u64, Vec<u8>)>, Ended<'a>> {
+    let alloc = rt.alloc();
+    let (Ok(view), Ok(other)) = (FolderView::beside(rt, path), FolderView::beside(rt, path)) else {
+        return Err(Ended::Run(RunFault::Read));
+    };
+    let mut past = Past::new(alloc, (view, other), Tail { segment, end });
+    if let Err(fault) = past.look_at_left(state) {
+        return Err(unsent(alloc, path, fault));
+    }
+    let Some(place) = state.plan() else {
+        return Ok(None);
+    };
+    match past.text_at(place) {
+        Ok(text) => Ok(Some((place, text))),
+        Err(fault) => Err(unsent(alloc, path, fault)),
+    }
+}
+
+/// The plan that a start takes: PLAN, or the one in force by the log. Where they differ, the words have to choose.
+pub(crate) fn plan_of<'a, R: Runtime>(
+    rt: &R,
+    words: &ArgMatches<'a>,
+    plan: Plan,
+    state: &State,
+    tail: (u64, usize),
+) -> Result<Arc<Plan>, Ended<'a>> {
+    let alloc = rt.alloc();
+    let path = words.get_str("FOLDER").unwrap_or("");
+    let Some((place, text)) = text_in_force(rt, path, state, tail)? else {
+        return Ok(Arc::new(alloc, plan)?);
+    };
+    if text.as_slice() == plan.text() || words.get_flag("take-plan") {
+        return Ok(Arc::new(alloc, plan)?);
+    }
+    if words.get_flag("keep-plan") {
+        return Ok(Arc::new(alloc, parse_plan(alloc, path, &text)?)?);
+    }
+    let name = words.get_str("PLAN").unwrap_or("");
+    let said = format!(in alloc;
+        "{name} isn't the plan in force in {path}, which stands at place {place} of its log\nstart with --take-plan to take {name}, or with --keep-plan to go on with the plan in force"
+    )?;
+    Err(Ended::Unlisted { said })
 }

@@ -1,15 +1,15 @@
 //! A message that is too long: it is answered AR where its first segment came, before its connection ends.
 use crate::gateway::hub::Hub;
-use crate::gateway::lobby::Sender;
 use crate::gateway::refusals::Logged;
+use crate::gateway::senders::Sender;
 use crate::stamps::Utc;
 use gw_ack::{Header, INTERNAL, Reply, answer};
 use gw_er7::{ReadFault, read};
+use gw_journal::{Naming, Storage};
 use gw_mllp::{is_content, write_block};
 use gw_run::Clock as Stamps;
 use gw_stream::{Counts, RunFault};
 use memchr::memchr;
-use gw_journal::{Naming, Storage};
 use std::alloc::{AllocError, Global};
 use std::io::{Eprint, ErrorKind, Read, Write};
 use std::net::{Shutdown, TcpStream};
@@ -70,7 +70,10 @@ fn block_of<J: Naming, S: Storage + Drop, R: Wait + Clock>(
 }
 
 /// Reads what a sender still sends. If bytes were left unread, the system would drop the answer with them.
-fn read_rest<J: Naming, S: Storage + Drop, R: Wait + Clock>(hub: &Hub<'_, J, S, R>, stream: &TcpStream) {
+fn read_rest<J: Naming, S: Storage + Drop, R: Wait + Clock>(
+    hub: &Hub<'_, J, S, R>,
+    stream: &TcpStream,
+) {
     let _ = stream.set_read_timeout(Some(Duration::from_millis(LOOK)));
     let Ok(begun) = Instant::now(hub.rt) else {
         return;

@@ -1,10 +1,9 @@
 //! The page, the metrics and the health of a gateway, over HTTP: one connection at a time, for five seconds at most.
 use crate::ended::Ended;
-use crate::gateway::hub::{Counters, Hub};
-use crate::gateway::links::listen_briefly;
+use crate::gateway::hub::Hub;
 use crate::gateway::status::{Shown, all_shown};
 use crate::gateway::watch::Seen;
-use crate::sockets::pause;
+use crate::sockets::{listen_briefly, pause};
 use crate::stamps::{stamp_of, time_in};
 use clap::ArgMatches;
 use gw_journal::{Naming, Storage};
@@ -12,13 +11,14 @@ use gw_page::{Figures, Receiver, answer};
 use gw_stream::RunFault;
 use std::alloc::{AllocError, Global};
 use std::hash::RandomState;
+use std::io;
 use std::io::{Eprint, Error, ErrorKind, Read, Write};
 use std::net::{Net, Shutdown, TcpListener, TcpStream};
-use std::random::RandomSource;
 use std::os::fd::AsRawFd;
+use std::random::RandomSource;
 use std::sync::Wait;
+use std::sync::atomic::Ordering;
 use std::time::{Clock, Duration, Instant};
-use std::io;
 
 /// How many seconds a request and its answer may take, and how many the other end has to close its connection.
 const PATIENCE: u64 = 5;
@@ -79,7 +79,12 @@ fn receiver_of<R: Wait + Clock + AllocGlobal>(
     rt: &R,
     shown: &Shown,
 ) -> Result<Receiver, AllocError> {
-    let Shown { line, stand, left, .. } = shown;
+    let Shown {
+        line,
+        stand,
+        left,
+        ..
+    } = shown;
     Ok(Receiver {
         name: line.name.as_slice().to_vec(rt.alloc())?,
         is_connected: stand.is_connected,
@@ -106,15 +111,12 @@ fn receivers_of<J: Naming, S: Storage + Drop, R: Wait + Clock + AllocGlobal>(
 }
 
 /// The figures of this moment.
-fn figures_of<J: Naming, S: Storage + Drop, R: Wait + Clock + AllocGlobal>(hub: &Hub<'_, J, S, R>) -> Result<Figures, AllocError> {
-    let Counters {
-        version,
-        accepted,
-        is_short,
-        ..
-    } = hub.counters();
-    let (open, sessions) = hub.lobby.counts(hub.rt);
-    let entries = hub.journal.lock(hub.rt).ledger.state().next();
+pub(crate) fn figures_of<J: Naming, S: Storage + Drop, R: Wait + Clock + AllocGlobal>(
+    hub: &Hub<'_, J, S, R>,
+) -> Result<Figures, AllocError> {
+    let office = hub.journal.lock(hub.rt);
+    let (plan, entries) = (office.current().version, office.ledger.state().next());
+    drop(office);
     let Seen {
         refusals,
         codes,
@@ -123,13 +125,13 @@ fn figures_of<J: Naming, S: Storage + Drop, R: Wait + Clock + AllocGlobal>(hub: 
     Ok(Figures {
         time: time_in(stamp_of(hub.rt, None).unwrap_or(hub.start).digits()),
         rounds: 0,
-        plan: version,
-        accepted,
+        plan,
+        accepted: hub.accepted.load(Ordering::SeqCst),
         refused,
-        open,
-        sessions,
+        open: hub.open.load(Ordering::SeqCst),
+        sessions: hub.sessions.load(Ordering::SeqCst),
         entries,
-        is_short,
+        is_short: hub.is_short(),
         has_failed: hub.fault().is_some(),
         receivers: receivers_of(hub)?,
         codes,
@@ -206,7 +208,10 @@ fn limited<'a, 'f, J: Naming, S: Storage + Drop, R: Wait + Clock>(
 }
 
 /// Passes over what still comes, so that the answer isn't lost with it.
-fn pass_over<J: Naming, S: Storage + Drop, R: Wait + Clock>(hub: &Hub<'_, J, S, R>, stream: &TcpStream) -> io::Result<()> {
+fn pass_over<J: Naming, S: Storage + Drop, R: Wait + Clock>(
+    hub: &Hub<'_, J, S, R>,
+    stream: &TcpStream,
+) -> io::Result<()> {
     stream.shutdown(Shutdown::Write)?;
     let mut rest = limited(hub, stream, CLOSE)?;
     let mut piece = [0u8; PIECE];
@@ -236,7 +241,10 @@ fn show<J: Naming, S: Storage + Drop, R: Wait + Clock + AllocGlobal>(
 }
 
 /// Answers one connection after another, while the receivers stay.
-pub(crate) fn show_all<J: Naming, S: Storage + Drop, R: Wait + Clock + AllocGlobal>(hub: &Hub<'_, J, S, R>, pages: Option<&Pages>) {
+pub(crate) fn show_all<J: Naming, S: Storage + Drop, R: Wait + Clock + AllocGlobal>(
+    hub: &Hub<'_, J, S, R>,
+    pages: Option<&Pages>,
+) {
     let Some(pages) = pages else {
         return;
     };

@@ -1,12 +1,11 @@
 //! Plans that take the place of the one in force, and those that the log has.
 use crate::ended::Ended;
 use crate::files::read_text;
-use crate::gateway::clock::microseconds;
 use crate::gateway::hub::Hub;
 use crate::gateway::lines::Line;
-use crate::gateway::lobby::Guest;
 use crate::plans::parse_plan;
 use crate::runtime::Runtime;
+use crate::stamps::microseconds;
 use crate::swaps::{Unswapped, lines_of};
 use gw_gateway::PutFault;
 use gw_journal::{Naming, Storage};
@@ -15,21 +14,6 @@ use gw_stream::RunFault;
 use std::alloc::{AllocError, Global};
 use std::fs::metadata;
 use std::sync::{Arc, Wait};
-
-/// Begins the line of a receiver, which has none yet.
-fn begin_line<J: Naming, S: Storage + Drop, R: Runtime + Wait>(
-    hub: &Hub<'_, J, S, R>,
-    number: u32,
-    name: Vec<u8>,
-    is_planned: bool,
-) -> Result<(), AllocError> {
-    let line = Arc::new(hub.rt.alloc(), Line::new(number, name, is_planned))?;
-    hub.lines.add(hub.rt, line.clone()?)?;
-    if !hub.lobby.queue(hub.rt, Guest::Line(line)) {
-        return Err(AllocError);
-    }
-    Ok(())
-}
 
 /// The receivers for which something is left, and those of the plan in force: their numbers and names, and whether the plan has them.
 fn wanted<J: Naming, S: Storage + Drop, R: Runtime + Wait>(
@@ -59,7 +43,8 @@ pub(crate) fn begin_lines<J: Naming, S: Storage + Drop, R: Runtime + Wait>(
     }
     for (number, name, is_planned) in wanted {
         if hub.lines.find(hub.rt, number).is_none() {
-            begin_line(hub, number, name, is_planned)?;
+            let line = Line::new(number, name, is_planned);
+            hub.lines.add(hub.rt, Arc::new(hub.rt.alloc(), line)?)?;
         }
     }
     Ok(())
@@ -82,11 +67,7 @@ fn take<J: Naming, S: Storage + Drop, R: Runtime + Wait>(
 }
 
 /// The plan of a file, which has to be a regular one: a pipe would be waited for.
-fn read_plan<'a, R: Runtime>(
-    rt: &R,
-    alloc: Global,
-    path: &'a str,
-) -> Result<Arc<Plan>, Ended<'a>> {
+fn read_plan<'a, R: Runtime>(rt: &R, alloc: Global, path: &'a str) -> Result<Arc<Plan>, Ended<'a>> {
     match metadata(rt, path) {
         Ok(of) if of.is_file() => {}
         _ => return Err(Ended::Unread { path }),

@@ -1,11 +1,11 @@
 //! What is noted of each answer that isn't AA: a line of the log, which has the message's control id, and what the page shows, which hasn't.
 use crate::gateway::hub::Hub;
-use crate::gateway::watch::{Noted, Word};
 use crate::stamps::time_in;
 use gw_er7::{Message, Place, Segment, read};
-use gw_mllp::Decoder;
-use memchr::memmem::find;
 use gw_journal::{Naming, Storage};
+use gw_mllp::Decoder;
+use gw_page::Refusal;
+use memchr::memmem::find;
 use std::alloc::{AllocError, Global};
 use std::io;
 use std::io::{Eprint, Error, ErrorKind, Write};
@@ -61,18 +61,19 @@ impl<'a, 'f, J: Naming, S: Storage + Drop, R: Wait> Logged<'a, 'f, J, S, R> {
             if !is_accepted(&content)
                 && let Ok(answer) = read(self.alloc, &content)
             {
-                self.note(&answer);
+                let _ = self.note(&answer);
             }
         }
     }
 
     // Notes an answer that isn't AA.
-    fn note(&self, answer: &Message) {
-        let noted = noted_of(self.session, answer);
-        self.hub.watch.note(self.hub.rt, noted);
-        if let Ok(line) = line_of(self.alloc, &noted) {
-            self.hub.folder.add(line.as_bytes());
-        }
+    fn note(&self, answer: &Message) -> Result<(), AllocError> {
+        let refusal = refusal_of(self.alloc, self.session, answer)?;
+        let control = word_of(self.alloc, answer, b"MSA", 2)?;
+        let line = line_of(self.alloc, &refusal, &control)?;
+        self.hub.watch.note(self.hub.rt, refusal);
+        self.hub.folder.add(line.as_bytes());
+        Ok(())
     }
 }
 
@@ -121,90 +122,87 @@ fn is_accepted(content: &[u8]) -> bool {
     content.get(code..code.saturating_add(2)) == Some(b"AA".as_slice())
 }
 
-/// The text of the first component of a field.
-fn field_of<'a>(segment: &Segment<'a>, field: usize) -> &'a [u8] {
-    segment.text(Place {
+/// The first segment of this name.
+fn segment_of<'a>(answer: &'a Message, name: &[u8; 3]) -> Option<Segment<'a>> {
+    for i in 0..answer.segment_count() {
+        let segment = answer.segment(i);
+        if segment.name() == *name {
+            return Some(segment);
+        }
+    }
+    None
+}
+
+/// The text of the first component of a field. It is empty where the answer has none.
+fn word_of(
+    alloc: Global,
+    answer: &Message,
+    name: &[u8; 3],
+    field: usize,
+) -> Result<Vec<u8>, AllocError> {
+    let place = Place {
         field,
         rep: 1,
         comp: 1,
         sub: 1,
-    })
+    };
+    match segment_of(answer, name) {
+        Some(segment) => Vec::from_slice(alloc, segment.text(place)),
+        None => Ok(Vec::new(alloc)),
+    }
 }
 
-/// The line of an answer: its time and number, the session, the message's control id, MSA-1, and the code and place of ERR.
-fn line_of(alloc: Global, noted: &Noted) -> Result<String, AllocError> {
-    let Noted {
-        time,
-        session,
-        number,
-        control,
-        answer,
-        code,
-        place,
-    } = noted;
-    let gap = if place.bytes().is_empty() { "" } else { " " };
-    format!(in alloc;
-        "{} session {session} {} {} {} {}{gap}{}\n",
-        time.escape_ascii(),
-        number.shown(),
-        control.shown(),
-        answer.shown(),
-        code.shown(),
-        place.bytes().escape_ascii()
-    )
-}
-
-fn word_of(text: &[u8]) -> Word {
-    let mut word = Word::new();
-    word.add(text);
-    word
-}
-
-/// The place, as ERR has it.
-fn place_of(error: &Segment<'_>) -> Word {
-    let mut place = Word::new();
+/// The place in the message, as ERR has it.
+fn place_of(alloc: Global, answer: &Message) -> Result<Vec<u8>, AllocError> {
+    let mut place = Vec::new(alloc);
+    let Some(error) = segment_of(answer, b"ERR") else {
+        return Ok(place);
+    };
     for comp in 1..=error.comps(2, 1) {
         if comp > 1 {
-            place.add(b"^");
+            place.push(b'^')?;
         }
-        place.add(error.text(Place {
+        place.extend_from_slice(error.text(Place {
             field: 2,
             rep: 1,
             comp,
             sub: 1,
-        }));
+        }))?;
     }
-    place
+    Ok(place)
 }
 
-/// What is noted of an answer. Of the message it has no value but the control id, which the page doesn't show.
-fn noted_of(session: u64, answer: &Message) -> Noted {
-    let mut noted = Noted {
-        time: [b'0'; 14],
+/// What the page shows of an answer: of the message its place alone, no value and no control id.
+fn refusal_of(alloc: Global, session: u64, answer: &Message) -> Result<Refusal, AllocError> {
+    Ok(Refusal {
+        time: time_in(&word_of(alloc, answer, b"MSH", 7)?),
         session,
-        number: Word::new(),
-        control: Word::new(),
-        answer: Word::new(),
-        code: Word::new(),
-        place: Word::new(),
-    };
-    for i in 0..answer.segment_count() {
-        let segment = answer.segment(i);
-        match &segment.name() {
-            b"MSH" => {
-                noted.time = time_in(field_of(&segment, 7));
-                noted.number = word_of(field_of(&segment, 10));
-            }
-            b"MSA" => {
-                noted.answer = word_of(field_of(&segment, 1));
-                noted.control = word_of(field_of(&segment, 2));
-            }
-            b"ERR" => {
-                noted.code = word_of(field_of(&segment, 3));
-                noted.place = place_of(&segment);
-            }
-            _ => {}
-        }
-    }
-    noted
+        number: word_of(alloc, answer, b"MSH", 10)?,
+        answer: word_of(alloc, answer, b"MSA", 1)?,
+        code: word_of(alloc, answer, b"ERR", 3)?,
+        place: place_of(alloc, answer)?,
+    })
+}
+
+/// The line of an answer: its time, the session, its number, the message's control id, MSA-1, and the code and place of ERR.
+fn line_of(alloc: Global, refusal: &Refusal, control: &[u8]) -> Result<String, AllocError> {
+    let Refusal {
+        time,
+        session,
+        number,
+        answer,
+        code,
+        place,
+    } = refusal;
+    let control = if control.is_empty() { b"-" } else { control };
+    let gap = if place.is_empty() { "" } else { " " };
+    format!(in alloc;
+        "{} session {session} {} {} {} {}{gap}{}\n",
+        time.escape_ascii(),
+        number.escape_ascii(),
+        control.escape_ascii(),
+        answer.escape_ascii(),
+        code.escape_ascii(),
+        place.escape_ascii()
+    )
 }

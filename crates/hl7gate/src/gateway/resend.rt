@@ -1,20 +1,14 @@
 //! The word `resend`: what a receiver refused is due to it once more.
-use crate::gateway::clock::microseconds;
 use crate::gateway::hub::Hub;
-use crate::gateway::keeping::Keeper;
 use crate::gateway::lines::Line;
 use crate::runtime::Runtime;
-use gw_delivery::{PageFault, Pages};
+use crate::stamps::microseconds;
+use gw_delivery::{Keeper, PageFault, Pages};
 use gw_folder::FolderView;
 use gw_journal::{Naming, Storage};
 use gw_ledger::Message;
 use std::alloc::AllocError;
 use std::sync::Wait;
-use std::thread;
-use std::time::Duration;
-
-/// How often the log is read on, where it grows meanwhile.
-const LOOKS: u64 = 1_000;
 
 /// That a folder can't be opened now.
 const UNOPENED: PageFault = PageFault::Damaged { segment: 0, at: 0 };
@@ -24,14 +18,15 @@ fn places<J: Naming, S: Storage + Drop, R: Runtime + Wait>(
     hub: &Hub<'_, J, S, R>,
     receiver: u32,
 ) -> Result<Vec<u64>, PageFault> {
-    let Some(mut keeper) = Keeper::new(hub.rt, &hub.folder.path) else {
+    let Ok(view) = FolderView::beside(hub.rt, &hub.folder.path) else {
         return Err(UNOPENED);
     };
+    let mut keeper = Keeper::new(hub.rt.alloc(), view);
     let next = hub.journal.lock(hub.rt).ledger.state().next();
     // (what a refusal wrote is on the disk before its forwarder goes on)
-    for _ in 0..LOOKS {
+    for _ in 0..u64::MAX {
         let before = keeper.place();
-        if keeper.read_to(hub, next)? || keeper.place() == before {
+        if keeper.read_to(hub.tail(), next)? || keeper.place() == before {
             break;
         }
     }
@@ -73,7 +68,11 @@ pub(crate) fn resend<J: Naming, S: Storage + Drop, R: Runtime + Wait>(
     let time = microseconds(hub.rt);
     let mut last = None;
     for message in &messages {
-        let put = hub.journal.lock(hub.rt).ledger.again(time, line.number, message);
+        let put = hub
+            .journal
+            .lock(hub.rt)
+            .ledger
+            .again(time, line.number, message);
         match put {
             Ok(ticket) => last = Some(ticket),
             Err(fault) => return format!(in alloc; "refused: {fault}\n"),

@@ -1,21 +1,26 @@
 //! Sessions: no answer goes out before what it answers is on the disk.
-use crate::gateway::clock::Now;
 use crate::gateway::hub::Hub;
-use crate::gateway::links::{listen_briefly, watch};
-use crate::gateway::lobby::{Guest, Sender};
 use crate::gateway::overlong::{is_overlong, reject};
 use crate::gateway::refusals::{Logged, TURN};
 use crate::gateway::sent::Sent;
-use crate::sockets::pause;
+use crate::sockets::{pause, watch};
+use crate::stamps::Utc;
 use crate::threads::print_counts;
 use gw_gateway::{AtLog, Bells};
 use gw_journal::{Naming, Storage};
 use gw_stream::{Counts, Reads, RunFault, Writes, answer_blocks};
 use std::io::{Eprint, ErrorKind};
 use std::net::{SocketAddr, TcpListener, TcpStream};
-use std::os::fd::AsRawFd;
 use std::sync::Wait;
+use std::sync::atomic::Ordering;
 use std::time::{Clock, Duration};
+
+/// A sender's connection, and its number, from 1.
+#[derive(Drop)]
+pub(crate) struct Sender {
+    pub(crate) number: u64,
+    pub(crate) stream: TcpStream,
+}
 
 /// The forwarders' bells.
 #[derive(Drop)]
@@ -35,7 +40,7 @@ impl<J: Naming, S: Storage + Drop, R: Wait + Clock> Bells for Ringing<'_, '_, J,
     }
 
     fn accepted(&self, count: u64) {
-        self.hub.count_accepted(count);
+        self.hub.accepted.fetch_add(count, Ordering::SeqCst);
     }
 }
 
@@ -46,7 +51,7 @@ fn answer<J: Naming, S: Storage + Drop, R: Wait + AllocGlobal + Clock + Eprint>(
 ) -> Result<Counts, RunFault> {
     let alloc = hub.rt.alloc();
     let mut sent = Sent::new(alloc, hub, &sender.stream);
-    let mut clock = Now::new(hub.rt, hub.start);
+    let mut clock = Utc::new(hub.rt, hub.start);
     let bells = Ringing { hub };
     let mut judge = AtLog::new(alloc, hub.rt, &hub.journal, &mut clock, &bells);
     let mut writer = Writes::new(Logged::new(alloc, hub, &sender.stream, sender.number));
@@ -78,56 +83,42 @@ pub(crate) fn attend<J: Naming, S: Storage + Drop, R: Wait + AllocGlobal + Clock
             let _ = eprintln!(hub.rt; "session {number} ended: fault {}: {fault}", fault.number());
         }
     }
-    hub.lobby.leave(hub.rt);
+    hub.leave();
 }
 
-/// Has a connection that was accepted wait for its thread, where fewer than `most` are open.
+/// Has a connection that was accepted be a session, where fewer than `most` are open.
 fn welcome<J: Naming, S: Storage + Drop, R: Wait + Eprint>(
     hub: &Hub<'_, J, S, R>,
     stream: TcpStream,
     peer: SocketAddr,
     most: u64,
-) {
-    let rt = hub.rt;
-    let Some(number) = hub.lobby.admit(rt, most) else {
-        let _ = eprintln!(rt; "a connection from {peer} was closed: {most} are open (--connections)");
-        return;
+) -> Option<Sender> {
+    let Some(number) = hub.admit(most) else {
+        let _ = eprintln!(hub.rt;
+            "a connection from {peer} was closed: {most} are open (--connections)"
+        );
+        return None;
     };
-    let _ = eprintln!(rt; "session {number} from {peer}");
+    let _ = eprintln!(hub.rt; "session {number} from {peer}");
     let _ = stream.set_nodelay(true);
     let _ = stream.set_write_timeout(Some(Duration::from_millis(TURN)));
     watch(&stream);
-    if !hub.lobby.queue(rt, Guest::Sender(Sender { number, stream })) {
-        hub.lobby.leave(rt);
-    }
+    Some(Sender { number, stream })
 }
 
-/// Accepts connections, at most as many at once, until the gateway ends.
-pub(crate) fn accept_all<J: Naming, S: Storage + Drop, R: Wait + Clock + Eprint>(
+/// The next session, where at most as many connections are open. It is waited for a quarter of a second.
+pub(crate) fn next_sender<J: Naming, S: Storage + Drop, R: Wait + Clock + Eprint>(
     hub: &Hub<'_, J, S, R>,
-    listener: TcpListener,
+    listener: &TcpListener,
     most: u64,
-) {
-    let rt = hub.rt;
-    let mut is_refused = false;
-    listen_briefly(listener.as_raw_fd());
-    for _ in rt.forever() {
-        if hub.has_ended() {
-            return;
-        }
-        match listener.accept() {
-            Ok((stream, peer)) => {
-                is_refused = false;
-                welcome(hub, stream, peer, most);
-            }
-            Err(error) if error.kind() == ErrorKind::WouldBlock => {}
-            Err(error) => {
-                if !is_refused {
-                    let _ = eprintln!(rt; "connections can't be accepted now: {error}");
-                }
-                is_refused = true;
-                pause(rt);
-            }
+) -> Option<Sender> {
+    match listener.accept() {
+        Ok((stream, peer)) => welcome(hub, stream, peer, most),
+        Err(error) if error.kind() == ErrorKind::WouldBlock => None,
+        Err(error) => {
+            let _ = eprintln!(hub.rt; "a connection can't be accepted: {error}");
+            pause(hub.rt);
+            None
         }
     }
 }

@@ -1,6 +1,6 @@
 //! What a sender sends, as a session reads it.
 use crate::gateway::hub::Hub;
-use crate::gateway::turns::FREE;
+use crate::sockets::pause;
 use gw_journal::{Naming, Storage};
 use memchr::{memchr, memrchr};
 use std::alloc::{AllocError, Global};
@@ -26,6 +26,9 @@ const LOOK: u64 = 250;
 const SILENCE: u64 = 30_000;
 
 const LAST: u64 = 2_000;
+
+/// How many bytes of a message each session may keep without a turn.
+const FREE: usize = 65_536;
 
 /// How many seconds a long message may take to come, where others wait for their turn.
 const PATIENCE: u64 = 60;
@@ -121,31 +124,44 @@ impl<'a, 'f, J: Naming, S: Storage + Drop, R: Wait + Clock> Sent<'a, 'f, J, S, R
     pub(crate) fn give_turn(&mut self) {
         if self.turn.is_some() {
             self.turn = None;
-            self.hub.turns.give(self.hub.rt);
+            self.hub.give_turn();
         }
+    }
+
+    // Waits for a turn. False: the gateway ends.
+    fn wait_for_turn(&self) -> bool {
+        for _ in self.hub.rt.forever() {
+            if self.hub.take_turn() {
+                return true;
+            }
+            if self.hub.has_ended() {
+                return false;
+            }
+            pause(self.hub.rt);
+        }
+        unreachable!()
     }
 
     // Has a turn, where the message is long. Whoever has one for long, while others wait, is not waited for.
     fn take_turn(&mut self) -> io::Result<()> {
-        let (rt, turns) = (self.hub.rt, &self.hub.turns);
-        match self.turn {
-            None if self.stand.size >= FREE => {
-                for _ in rt.forever() {
-                    if turns.take(rt, Duration::from_millis(LOOK)) {
-                        self.turn = Some(Instant::now(rt)?);
-                        return Ok(());
-                    }
-                    if self.hub.has_ended() {
-                        return Err(Error::from(ErrorKind::TimedOut));
-                    }
-                }
-                Ok(())
+        let rt = self.hub.rt;
+        let Some(since) = self.turn else {
+            if self.stand.size < FREE {
+                return Ok(());
             }
-            Some(since) if since.elapsed(rt)?.as_secs() >= PATIENCE && turns.are_wanted(rt) => {
-                Err(Error::from(ErrorKind::TimedOut))
+            self.hub.set_waiting(true);
+            let has_turn = self.wait_for_turn();
+            self.hub.set_waiting(false);
+            if has_turn {
+                self.turn = Instant::now(rt).ok();
+                return Ok(());
             }
-            _ => Ok(()),
+            return Err(Error::from(ErrorKind::TimedOut));
+        };
+        if since.elapsed(rt)?.as_secs() >= PATIENCE && self.hub.is_waited_for() {
+            return Err(Error::from(ErrorKind::TimedOut));
         }
+        Ok(())
     }
 
     // Nothing came in time. False: the session ends here.

@@ -1,7 +1,9 @@
 //! What a gateway says of itself. Nothing of a message is in it.
-use crate::gateway::hub::{Counters, Hub};
+use crate::gateway::hub::Hub;
 use crate::gateway::lines::{Line, Stand};
+use crate::gateway::page::figures_of;
 use gw_journal::{Naming, Storage};
+use gw_page::Figures;
 use std::alloc::AllocError;
 use std::sync::{Arc, Wait};
 use std::time::Clock;
@@ -17,7 +19,7 @@ pub(crate) struct Shown {
 }
 
 /// How a line stands. None: the plan lacks its receiver, and nothing is left for it.
-fn shown<J: Naming, S: Storage + Drop, R: Wait + Clock + AllocGlobal>(
+fn stands<J: Naming, S: Storage + Drop, R: Wait + Clock + AllocGlobal>(
     hub: &Hub<'_, J, S, R>,
     line: Arc<Line>,
 ) -> Result<Option<Shown>, AllocError> {
@@ -42,7 +44,7 @@ pub(crate) fn all_shown<J: Naming, S: Storage + Drop, R: Wait + Clock + AllocGlo
 ) -> Result<Vec<Shown>, AllocError> {
     let mut all = Vec::new(hub.rt.alloc());
     for line in hub.lines.all(hub.rt, hub.rt.alloc())? {
-        if let Some(one) = shown(hub, line)? {
+        if let Some(one) = stands(hub, line)? {
             all.push(one)?;
         }
     }
@@ -88,55 +90,42 @@ fn receiver_json<R: Clock + AllocGlobal>(rt: &R, shown: &Shown) -> Result<String
     )
 }
 
-/// The gateway's state, to be read: a line for the whole, and one for each receiver.
-pub(crate) fn text<J: Naming, S: Storage + Drop, R: Wait + Clock + AllocGlobal>(
+/// The gateway's state: to be read, with a line for the whole and one for each receiver, or as JSON, in one line.
+pub(crate) fn state<J: Naming, S: Storage + Drop, R: Wait + Clock + AllocGlobal>(
     hub: &Hub<'_, J, S, R>,
+    is_json: bool,
 ) -> Result<String, AllocError> {
-    let Counters {
-        version,
+    let Figures {
+        plan,
+        open,
+        sessions,
         accepted,
         refused,
         is_short,
-    } = hub.counters();
-    let room = if is_short {
-        "short of room"
+        ..
+    } = figures_of(hub)?;
+    let alloc = hub.rt.alloc();
+    let room = if is_short { "is short of room" } else { "has room" };
+    let mut text = if is_json {
+        format!(in alloc;
+            "{{\"plan\":{plan},\"accepted\":{accepted},\"refused\":{refused},\"connections\":{open},\"sessions\":{sessions},\"short_of_room\":{is_short},\"receivers\":["
+        )?
     } else {
-        "has room"
+        format!(in alloc;
+            "plan {plan}, accepted {accepted}, refused {refused}, {open} connections of {sessions}, disk {room}\n"
+        )?
     };
-    let (open, sessions) = hub.lobby.counts(hub.rt);
-    let mut text = format!(in hub.rt.alloc();
-        "plan {version}, accepted {accepted}, refused {refused}, {open} connections of {sessions}, disk {room}\n"
-    )?;
+    let mut gap = "";
     for shown in &all_shown(hub)? {
-        let line = receiver_text(hub.rt, shown)?;
-        text.push_str(&line)?;
+        let receiver = if is_json {
+            receiver_json(hub.rt, shown)?
+        } else {
+            receiver_text(hub.rt, shown)?
+        };
+        text.push_str(gap)?;
+        text.push_str(&receiver)?;
+        gap = if is_json { "," } else { "" };
     }
-    Ok(text)
-}
-
-/// The gateway's state as JSON, in one line.
-pub(crate) fn json<J: Naming, S: Storage + Drop, R: Wait + Clock + AllocGlobal>(
-    hub: &Hub<'_, J, S, R>,
-) -> Result<String, AllocError> {
-    let Counters {
-        version,
-        accepted,
-        refused,
-        is_short,
-    } = hub.counters();
-    let (open, sessions) = hub.lobby.counts(hub.rt);
-    let mut text = format!(in hub.rt.alloc();
-        "{{\"plan\":{version},\"accepted\":{accepted},\"refused\":{refused},\"connections\":{open},\"sessions\":{sessions},\"short_of_room\":{is_short},\"receivers\":["
-    )?;
-    let mut is_first = true;
-    for shown in &all_shown(hub)? {
-        if !is_first {
-            text.push(',')?;
-        }
-        is_first = false;
-        let line = receiver_json(hub.rt, shown)?;
-        text.push_str(&line)?;
-    }
-    text.push_str("]}\n")?;
+    text.push_str(if is_json { "]}\n" } else { "" })?;
     Ok(text)
 }

@@ -1,6 +1,6 @@
 //! The command `tell`: a line for a running gateway, and its answer.
 use crate::ended::Ended;
-use crate::gateway::control::control_path;
+use crate::gateway::control_path;
 use crate::report::{DONE, REFUSED, write_all};
 use clap::ArgMatches;
 use gw_stream::RunFault;

@@ -1,25 +1,19 @@
 //! What a start has to know of a log beside its state: the plan in force, and whether what is left can be sent.
-use crate::ended::Ended;
-use crate::plans::parse_plan;
-use clap::ArgMatches;
-use gw_delivery::{PageFault, Pages, Tail};
+use crate::fault::PageFault;
+use crate::pages::{Pages, Tail};
 use gw_due::{Event, ReadFault, State, read};
-use gw_folder::FolderView;
+use gw_log::Calls;
 use gw_plan::{Plan, PlanFault};
-use gw_stream::RunFault;
-use std::alloc::{AllocError, Global};
-use std::fs::File;
-use std::rt::Files;
-use std::sync::Arc;
+use std::alloc::Global;
 
-/// The log of a folder, as a start reads it.
+/// A log, as a start reads it.
 #[derive(Drop)]
-pub(crate) struct Past<'f, R: Files<File = File> + AllocGlobal + Clone + Drop> {
+pub struct Past<V: Calls + Drop> {
     alloc: Global,
     tail: Tail,
-    pages: Pages<FolderView<'f, R>>,
+    pages: Pages<V>,
     // for what stands at other places
-    others: Pages<FolderView<'f, R>>,
+    others: Pages<V>,
     // the plan that was looked at last, by its place
     plan: Option<u64>,
 }
@@ -33,7 +27,7 @@ fn is_left(state: &State, receiver: u32, place: u64) -> bool {
 }
 
 /// The place at which what is left for receivers begins. None: nothing is left.
-pub(crate) fn left_from(state: &State) -> Option<u64> {
+pub fn left_from(state: &State) -> Option<u64> {
     let mut first: Option<u64> = None;
     for receiver in state.receivers() {
         if receiver.left() > 0 {
@@ -43,24 +37,20 @@ pub(crate) fn left_from(state: &State) -> Option<u64> {
     first
 }
 
-impl<'f, R: Files<File = File> + AllocGlobal + Clone + Drop> Past<'f, R> {
-    /// The log of the folder at this path, up to its end. None: the folder can't be opened.
-    pub(crate) fn open(rt: &'f R, path: &str, (segment, end): (u64, usize)) -> Option<Self> {
-        let alloc = rt.alloc();
-        match (FolderView::beside(rt, path), FolderView::beside(rt, path)) {
-            (Ok(view), Ok(other)) => Some(Past {
-                alloc,
-                tail: Tail { segment, end },
-                pages: Pages::new(alloc, view),
-                others: Pages::new(alloc, other),
-                plan: None,
-            }),
-            _ => None,
+impl<V: Calls + Drop> Past<V> {
+    /// The log that both look at, up to its end.
+    pub fn new(alloc: Global, (view, other): (V, V), tail: Tail) -> Self {
+        Past {
+            alloc,
+            tail,
+            pages: Pages::new(alloc, view),
+            others: Pages::new(alloc, other),
+            plan: None,
         }
     }
 
     /// The text of the plan at this place.
-    pub(crate) fn text_at(&mut self, place: u64) -> Result<Vec<u8>, PageFault> {
+    pub fn text_at(&mut self, place: u64) -> Result<Vec<u8>, PageFault> {
         let bytes = self.others.find(self.tail, place)?;
         match read(self.alloc, &bytes) {
             Ok(entry) => match entry.event {
@@ -115,7 +105,7 @@ impl<'f, R: Files<File = File> + AllocGlobal + Clone + Drop> Past<'f, R> {
     }
 
     /// Reads all that is left, and looks whether each of it is under a plan that this program takes.
-    pub(crate) fn look_at_left(&mut self, state: &State) -> Result<(), PageFault> {
+    pub fn look_at_left(&mut self, state: &State) -> Result<(), PageFault> {
         let Some(from) = left_from(state) else {
             return Ok(());
         };
@@ -138,52 +128,4 @@ impl<'f, R: Files<File = File> + AllocGlobal + Clone + Drop> Past<'f, R> {
         }
         Ok(())
     }
-}
-
-/// Why what is left can't be sent.
-fn unsent<'a>(alloc: Global, path: &str, fault: PageFault) -> Result<Ended<'a>, AllocError> {
-    let said = match fault {
-        PageFault::Memory => return Ok(Ended::Run(RunFault::Memory)),
-        PageFault::Plan { place } => format!(in alloc;
-            "{path}: this hl7gate refuses the plan at place {place} of the log, and messages wait that were accepted under it\n{path}: start the hl7gate that took it, and let it deliver first"
-        )?,
-        fault => format!(in alloc; "{path}: {fault}\n{path}: `hl7gate log {path}` says more")?,
-    };
-    Ok(Ended::Unlisted { said })
-}
-
-/// The plan that a start takes: PLAN, or the one in force by the log. Where they differ, the words have to choose.
-pub(crate) fn plan_of<'a, R: Files<File = File> + AllocGlobal + Clone + Drop>(
-    rt: &R,
-    words: &ArgMatches<'a>,
-    plan: Plan,
-    state: &State,
-    tail: (u64, usize),
-) -> Result<Arc<Plan>, Ended<'a>> {
-    let alloc = rt.alloc();
-    let path = words.get_str("FOLDER").unwrap_or("");
-    let Some(mut past) = Past::open(rt, path, tail) else {
-        return Err(Ended::Run(RunFault::Read));
-    };
-    if let Err(fault) = past.look_at_left(state) {
-        return Err(unsent(alloc, path, fault)?);
-    }
-    let Some(place) = state.plan() else {
-        return Ok(Arc::new(alloc, plan)?);
-    };
-    let text = match past.text_at(place) {
-        Ok(text) => text,
-        Err(fault) => return Err(unsent(alloc, path, fault)?),
-    };
-    if text.as_slice() == plan.text() || words.get_flag("take-plan") {
-        return Ok(Arc::new(alloc, plan)?);
-    }
-    if words.get_flag("keep-plan") {
-        return Ok(Arc::new(alloc, parse_plan(alloc, path, &text)?)?);
-    }
-    let name = words.get_str("PLAN").unwrap_or("");
-    let said = format!(in alloc;
-        "{name} isn't the plan in force in {path}, which stands at place {place} of its log\nstart with --take-plan to take {name}, or with --keep-plan to go on with the plan in force"
-    )?;
-    Err(Ended::Unlisted { said })
 }

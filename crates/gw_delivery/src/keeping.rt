@@ -2,17 +2,12 @@
 //!
 //! A file is needed from the first on that has a message which is left for a receiver, which a receiver refused and that wasn't due to it again since,
 //! or which is due to it once more; and so is the file of the plan that it is under.
-use crate::gateway::hub::Hub;
-use crate::gateway::past::left_from;
-use gw_delivery::{Page, PageFault, Pages};
-use gw_due::{Event, How, read};
-use gw_folder::FolderView;
-use gw_journal::{Naming, Storage};
+use crate::fault::PageFault;
+use crate::pages::{Page, Pages, Tail};
+use gw_due::{Event, How, ReadFault, read};
+use gw_log::Calls;
 use std::alloc::{AllocError, Global};
 use std::collections::VecDeque;
-use std::fs::File;
-use std::rt::Files;
-use std::sync::Wait;
 
 /// How many records are read on at once.
 const MOST: u64 = 50_000;
@@ -35,9 +30,9 @@ struct Kept {
 
 /// What all records up to a place say of files, and of what lies refused. It grows with the files, and with what lies refused.
 #[derive(Drop)]
-pub(crate) struct Keeper<'f, R: Files<File = File> + AllocGlobal + Clone + Drop> {
+pub struct Keeper<V: Calls + Drop> {
     alloc: Global,
-    pages: Pages<FolderView<'f, R>>,
+    pages: Pages<V>,
     files: VecDeque<Begun>,
     refused: VecDeque<Kept>,
     repeated: VecDeque<Kept>,
@@ -45,34 +40,26 @@ pub(crate) struct Keeper<'f, R: Files<File = File> + AllocGlobal + Clone + Drop>
 
 /// Takes the first out that is a receiver's, at this place.
 fn take(all: &mut VecDeque<Kept>, receiver: u32, at: u64) -> Option<Kept> {
-    let mut number = 0;
-    for one in all.iter() {
-        if one.receiver == receiver && one.at == at {
-            return all.remove(number);
-        }
-        number += 1;
-    }
-    None
+    let number = all
+        .iter()
+        .position(|one| one.receiver == receiver && one.at == at)?;
+    all.remove(number)
 }
 
-impl<'f, R: Files<File = File> + AllocGlobal + Clone + Drop> Keeper<'f, R> {
-    /// Before all records of a folder's log. None: its folder can't be opened.
-    pub(crate) fn new(rt: &'f R, path: &str) -> Option<Self> {
-        let alloc = rt.alloc();
-        let Ok(view) = FolderView::beside(rt, path) else {
-            return None;
-        };
-        Some(Keeper {
+impl<V: Calls + Drop> Keeper<V> {
+    /// Before all records of the log that is looked at.
+    pub fn new(alloc: Global, view: V) -> Self {
+        Keeper {
             alloc,
             pages: Pages::new(alloc, view),
             files: VecDeque::new(alloc),
             refused: VecDeque::new(alloc),
             repeated: VecDeque::new(alloc),
-        })
+        }
     }
 
     /// The place of the record that is read next.
-    pub(crate) fn place(&self) -> u64 {
+    pub fn place(&self) -> u64 {
         self.pages.place()
     }
 
@@ -111,8 +98,10 @@ impl<'f, R: Files<File = File> + AllocGlobal + Clone + Drop> Keeper<'f, R> {
 
     // Goes over a record.
     fn note(&mut self, page: &Page) -> Result<(), PageFault> {
-        let Ok(entry) = read(self.alloc, &page.bytes) else {
-            return Err(PageFault::Message { place: page.place });
+        let entry = match read(self.alloc, &page.bytes) {
+            Ok(entry) => entry,
+            Err(ReadFault::Memory) => return Err(PageFault::Memory),
+            Err(ReadFault::Unreadable) => return Err(PageFault::Message { place: page.place }),
         };
         let number = self.pages.segment();
         let is_next = match self.files.back() {
@@ -131,12 +120,7 @@ impl<'f, R: Files<File = File> + AllocGlobal + Clone + Drop> Keeper<'f, R> {
     }
 
     /// Reads on. True: all records before this place were read, else it is asked again.
-    pub(crate) fn read_to<J: Naming, S: Storage + Drop, W: Wait>(
-        &mut self,
-        hub: &Hub<'_, J, S, W>,
-        place: u64,
-    ) -> Result<bool, PageFault> {
-        let tail = hub.tail();
+    pub fn read_to(&mut self, tail: Tail, place: u64) -> Result<bool, PageFault> {
         if self.pages.segment() == 0 {
             self.pages.rewind(tail)?;
         }
@@ -153,7 +137,7 @@ impl<'f, R: Files<File = File> + AllocGlobal + Clone + Drop> Keeper<'f, R> {
     }
 
     /// Where the messages stand that lie refused by a receiver, in the order in which it refused them.
-    pub(crate) fn refused(&self, receiver: u32) -> Result<Vec<u64>, AllocError> {
+    pub fn refused(&self, receiver: u32) -> Result<Vec<u64>, AllocError> {
         let mut places = Vec::new(self.alloc);
         for one in &self.refused {
             if one.receiver == receiver {
@@ -164,7 +148,7 @@ impl<'f, R: Files<File = File> + AllocGlobal + Clone + Drop> Keeper<'f, R> {
     }
 
     /// The first file that is needed, where what is left for receivers begins at this place. The files before it are forgotten.
-    pub(crate) fn needed(&mut self, left: u64) -> u64 {
+    pub fn needed(&mut self, left: u64) -> u64 {
         let mut place = left;
         for one in self.refused.iter().chain(self.repeated.iter()) {
             place = place.min(one.place);
@@ -187,32 +171,4 @@ impl<'f, R: Files<File = File> + AllocGlobal + Clone + Drop> Keeper<'f, R> {
         }
         needed
     }
-}
-
-/// Where what is left for receivers begins, or will begin; and the place of the next record.
-fn left<J: Naming, S: Storage + Drop, R: Wait>(hub: &Hub<'_, J, S, R>) -> (u64, u64) {
-    let office = hub.journal.lock(hub.rt);
-    let state = office.ledger.state();
-    (left_from(state).unwrap_or(state.next()), state.next())
-}
-
-/// Has the files go that aren't needed. They go when the next file is begun. None: what was read isn't known any more.
-pub(crate) fn look_at_files<'f, J: Naming, S: Storage + Drop, R: Wait + Files<File = File> + AllocGlobal + Clone + Drop>(
-    hub: &Hub<'f, J, S, R>,
-    keeper: Option<Keeper<'f, R>>,
-) -> Option<Keeper<'f, R>> {
-    let mut keeper = match keeper {
-        Some(keeper) => keeper,
-        None => Keeper::new(hub.rt, &hub.folder.path)?,
-    };
-    let (left, next) = left(hub);
-    match keeper.read_to(hub, next) {
-        Ok(true) => {
-            let needed = keeper.needed(left);
-            hub.journal.lock(hub.rt).ledger.keep_from(needed);
-        }
-        Ok(false) => {}
-        Err(_) => return None,
-    }
-    Some(keeper)
 }

@@ -1,0 +1,245 @@
+"""Trials of a gateway whose log has a past: other plans, what lies refused, plans that it refuses, another's folder, clocks. `.ci/gateways` plays them.
+
+The files of logs are made by log_files.py, and not by the program.
+"""
+import os
+import re
+import shutil
+import subprocess
+import time
+
+from disks import NOW, begun, lay, report
+from gateway import REPORT, Receiver, control
+from loads import message, plan_for, routed
+from log_files import TAKEN, accepted, again, chain, margin, named, passed, planned, refused
+from loopback import ANSWERS, LEFT, MESSAGES, Differs, same
+from preload import library_in
+
+
+def codes(answers):
+    return [re.search(rb"MSA\|(\w+)", it or b"MSA|none")[1] for it in answers]
+
+
+def ran(gateway, *words):
+    """A start that comes to no end of its own but a refusal: its status and its lines."""
+    done = subprocess.run([gateway.program, "gateway", "plan", "127.0.0.1:0", "folder", *words], cwd=gateway.room, capture_output=True, text=True, timeout=20)
+    return done.returncode, done.stderr
+
+
+def unsendable(gateway):
+    """A message that can't be read, or that its plan has no route for, can't be translated. Its receiver isn't sent it: it lies refused, and the next is sent."""
+    gateway.play(WARDS=Receiver(), ARCHIVE=Receiver())
+    lost = [accepted(NOW, 1, [1], b"no message"), accepted(NOW, 2, [1], message(b"X", b"A99")[1:-2])]
+    lay(gateway, chain([[*begun(gateway), *lost, report(3, [1])]]))
+    gateway.start()
+    gateway.wait("receiver WARDS: 3 messages wait in folder")
+    gateway.receivers["WARDS"].has(LEFT["WARDS"][:1], gateway.until)
+    for place in 4, 5:
+        gateway.wait(rf"receiver WARDS isn't sent the message at place {place} of the log in folder: .*")
+    same("refused", [0, 2], [it["refused"] for it in sorted(gateway.status()["receivers"], key=lambda it: it["name"])])
+    gateway.kill()
+
+
+def repeated(gateway):
+    """A log in which a refused message is due once more, under an older plan than the one in force: it is sent as its own plan has it, behind what came before."""
+    gateway.play(WARDS=Receiver(), ARCHIVE=Receiver())
+    text = (gateway.room / "plan").read_bytes()
+    older = text.replace(b"build 12 const 2.5.1", b"build 12 const 2.5")
+    same("that the plans differ", True, older != text)
+    records = [*begun(gateway, older), report(1, [2]), passed(NOW, 2, 4, refused(1, b"")), planned(NOW, text), report(2, [2]), again(NOW, 2, 4), report(3, [2])]
+    lay(gateway, chain([records]))
+    gateway.start()
+    gateway.wait("receiver ARCHIVE: 3 messages wait in folder")
+    first = LEFT["ARCHIVE"][0]
+    gateway.receivers["ARCHIVE"].has([first, first.replace(b"|P|2.5.1\r", b"|P|2.5\r"), first], gateway.until)
+    same("resend of what came once more", (0, "resent 0\n"), gateway.tell("resend", "ARCHIVE"))
+    gateway.kill()
+
+
+def plan_differs(gateway):
+    """Where PLAN isn't the plan in force by the log, a start takes neither in silence: an option says which."""
+    gateway.play(WARDS=Receiver(), ARCHIVE=Receiver())
+    gateway.start()
+    text = (gateway.room / "plan").read_text()
+    (gateway.room / "next").write_text(text.replace("build 12 const 2.5.1", "build 12 const 2.5"))
+    same("swap", (0, "swapped 1\n"), gateway.tell("swap", "next"))
+    gateway.kill()
+    before = sorted((it.name, it.read_bytes()) for it in gateway.folder.glob("*.segment"))
+    status, lines = ran(gateway)
+    same("a start without an option", (3, "fault 2"), (status, lines.split("\n")[0]))
+    for word in "--take-plan", "--keep-plan":
+        if word not in lines:
+            raise Differs(f"{lines!r} doesn't say {word}")
+    same("the log then", before, sorted((it.name, it.read_bytes()) for it in gateway.folder.glob("*.segment")))
+    swapped = LEFT["ARCHIVE"][0].replace(b"|P|2.5.1\r", b"|P|2.5\r")
+    gateway.start("--keep-plan")
+    gateway.ask([REPORT])
+    gateway.receivers["ARCHIVE"].has([swapped], gateway.until)
+    # (so that its acknowledgment is on the disk)
+    same("what waits", [0, 0], gateway.once([0, 0], gateway.waiting))
+    gateway.kill()
+    gateway.start("--take-plan")
+    gateway.ask([REPORT])
+    gateway.receivers["ARCHIVE"].has([swapped, LEFT["ARCHIVE"][0]], gateway.until)
+    same("what waits", [0, 0], gateway.once([0, 0], gateway.waiting))
+    gateway.kill()
+    gateway.start()
+    gateway.kill()
+
+
+def plan_refused(gateway):
+    """A plan that this program refuses, and that what waits is under, stops a start, with its place, before anything is listened to.
+    Where nothing waits under it, it stops nothing."""
+    gateway.play(WARDS=Receiver(), ARCHIVE=Receiver())
+    text = (gateway.room / "plan").read_bytes()
+    first, *rest = begun(gateway, b"no plan"), planned(NOW, text)
+    lay(gateway, chain([[*first, report(1, [1]), *rest, report(2, [1])]]))
+    status, lines = ran(gateway)
+    same("status and fault", (3, "fault 2"), (status, lines.split("\n")[0]))
+    if not re.search(r"the plan at place 2 of the log", lines) or "listening" in lines:
+        raise Differs(f"the lines are {lines!r}")
+    lay(gateway, chain([[*first, report(1, [1]), passed(NOW, 1, 4, TAKEN), *rest, report(2, [1])]]))
+    gateway.start()
+    gateway.receivers["WARDS"].has(LEFT["WARDS"][:1], gateway.until)
+    gateway.kill()
+
+
+def old_folder(gateway):
+    """A folder with spools is refused, and nothing is made in it."""
+    gateway.play(WARDS=Receiver(), ARCHIVE=Receiver())
+    (gateway.folder / "spool").mkdir()
+    before = sorted(it.name for it in gateway.folder.iterdir())
+    status, lines = ran(gateway)
+    same("status and lines", (3, ["fault 2", "folder was made by an earlier hl7gate: let that one deliver what waits, and begin with a new folder", ""]), (status, lines.split("\n")))
+    same("what the folder has", before, sorted(it.name for it in gateway.folder.iterdir()))
+
+
+def moved_on(gateway, each=100):
+    """Of three receivers the middle one goes at an install and comes back at the next, while each has some that wait: each receives its own alone, in order."""
+    names, events = ["ONE", "TWO", "THREE"], {"ONE": "A01", "TWO": "A02", "THREE": "A03"}
+    receivers = {it: Receiver() for it in names}
+    gateway.receivers, addresses = receivers, {name: it.address for name, it in receivers.items()}
+    for receiver in receivers.values():
+        receiver.close()
+    (gateway.room / "plan").write_text(routed(addresses, events))
+    (gateway.room / "two").write_text(routed({it: addresses[it] for it in ("THREE", "ONE")}, events))
+    gateway.start()
+    stated, line = {it: [] for it in names}, gateway.client()
+    for at in range(each):
+        if at % 10 == 5:
+            same("install", 0, gateway.tell("install", "two" if at % 20 == 5 else "plan")[0])
+        for name in names:
+            block = message(b"%s%d" % (name.encode(), at), events[name].encode())
+            if codes(line.ask([block])) == [b"AA"]:
+                stated[name].append(block)
+    same("how many TWO was due", each // 2 + 5, len(stated["TWO"]))
+    gateway.kill()
+    gateway.start("--take-plan")
+    for receiver in receivers.values():
+        receiver.open(receiver.port)
+    for name in names:
+        receivers[name].has(stated[name], gateway.until)
+    gateway.kill()
+
+
+def lies_refused(gateway):
+    """Files whose messages all were passed are taken away when the next file is begun, but for those of what lies refused, and their plans."""
+    # (a file is ended at 64 MB: large messages, of which one is refused)
+    one = Receiver(codes=[b"AA", b"AE", b"AA"])
+    gateway.receivers = {"ONE": one}
+    (gateway.room / "plan").write_text(plan_for({"ONE": one.address}))
+    gateway.start()
+    line, bulk = gateway.client(), b"x" * 1_000_000
+    files = lambda: sorted(int(it.name.split(".")[0]) for it in gateway.folder.glob("*.segment"))
+
+    def send_file(tag):
+        for at in range(68):
+            same("an answer", [b"AA"], codes(line.ask([message(b"%s%d" % (tag, at), bulk=bulk)])))
+        # (so that all are passed, and the files have been looked at)
+        same("what waits", [0], gateway.once([0], gateway.waiting))
+        time.sleep(6)
+
+    send_file(b"A")
+    send_file(b"B")
+    same("files, while one lies refused in the first", [1, 2, 3], files())
+    same("resend", (0, "resent 1\n"), gateway.tell("resend", "ONE"))
+    same("what waits", [0], gateway.once([0], gateway.waiting))
+    time.sleep(6)
+    send_file(b"C")
+    if 1 in files():
+        raise Differs(f"the first file is still there: {files()}")
+    same("how many came", 68 * 3 + 1, len(one.blocks))
+    same("what came again", b"A1", control(one.blocks[68 * 2]))
+    gateway.kill()
+    gateway.start()
+    gateway.kill()
+
+
+def by_run(gateway):
+    """The day by `run`, and by the gateway: the receivers get the same, byte for byte, and senders the same answers, but for their times."""
+    gateway.play(WARDS=Receiver(), ARCHIVE=Receiver())
+    (gateway.room / "out").mkdir()
+    done = subprocess.run([gateway.program, "run", "plan", "out"], cwd=gateway.room, input=b"".join(MESSAGES * 40), capture_output=True, timeout=60)
+    gateway.start()
+    answers = gateway.ask(MESSAGES * 40)
+    without = lambda it: re.sub(rb"(MSH(?:\|[^|]*){5}\|)\d{14}", rb"\1NOW", it)
+    same("answers", without(done.stdout), without(b"".join(it or b"" for it in answers)))
+    for name, receiver in gateway.receivers.items():
+        stated = (gateway.room / "out" / f"{name}.mllp").read_bytes()
+        with receiver.news:
+            receiver.news.wait_for(lambda: sum(map(len, receiver.blocks)) >= len(stated), max(0, gateway.until - time.monotonic()))
+        same(f"what {name} got", stated, b"".join(receiver.blocks))
+    gateway.kill()
+
+
+# Sets the clock an hour back from when the file of BACK is there.
+CLOCK = r"""
+extern long syscall(long, ...);
+extern char *getenv(const char *);
+enum { CLOCK_GETTIME = 228, ACCESS = 21 };
+int clock_gettime(int clock, long *time) {
+    int result = (int)syscall(CLOCK_GETTIME, clock, time);
+    if (!result && !clock && !syscall(ACCESS, getenv("BACK"), 0L)) time[0] -= 3600;
+    return result;
+}
+"""
+
+
+def clock_back(gateway):
+    """The clock is set back by an hour in mid-traffic: messages are answered and sent, their stamps are the clock's, and the next start goes on."""
+    gateway.play(WARDS=Receiver(), ARCHIVE=Receiver())
+    back = gateway.room / "back"
+    gateway.start(env={"LD_PRELOAD": str(library_in(gateway.room, "clock", CLOCK)), "BACK": str(back)})
+    answers = gateway.ask(MESSAGES)
+    gateway.answered(answers, ANSWERS)
+    back.write_text("")
+    answers = gateway.ask(MESSAGES)
+    same("codes", codes(ANSWERS), codes(answers))
+    stamp = time.mktime(time.strptime(answers[0].split(b"|")[6].decode(), "%Y%m%d%H%M%S")) - time.mktime(time.gmtime())
+    if not -3700 < stamp < -3500:
+        raise Differs(f"an answer's stamp is {stamp} s from now")
+    for name, receiver in gateway.receivers.items():
+        receiver.has(LEFT[name] * 2, gateway.until)
+    same("what waits", [0, 0], gateway.once([0, 0], gateway.waiting))
+    gateway.kill()
+    gateway.start()
+    gateway.ask([REPORT])
+    gateway.receivers["ARCHIVE"].has(LEFT["ARCHIVE"] * 2 + LEFT["ARCHIVE"][:1], gateway.until)
+    gateway.kill()
+
+
+def folder_gone(gateway):
+    """The folder is removed under the gateway, or moved: nothing is answered AA any more, and it ends."""
+    gateway.play(WARDS=Receiver(), ARCHIVE=Receiver())
+    for at, go in enumerate((shutil.rmtree, lambda it: os.rename(it, str(it) + "2"))):
+        gateway.folder.mkdir(exist_ok=True)
+        gateway.start()
+        line = gateway.client()
+        same("a code before", [b"AA"], codes(line.ask([REPORT])))
+        go(gateway.folder)
+        line.send(REPORT.replace(b"LAB0007", b"LATE"))
+        try:
+            same("the answer then", None, line.block())
+        except ConnectionError:
+            pass
+        gateway.ends(3, ["fault 3"])
