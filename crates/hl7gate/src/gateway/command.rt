@@ -181,9 +181,9 @@ fn begin<'f, J: Naming, S: Storage + Drop, R: Runtime + Wait>(
     folder: &'f Folder,
 ) -> Result<Hub<'f, J, S, R>, RunFault> {
     let alloc = rt.alloc();
-    let mut office = Office::new(alloc, ledger, plan.clone()?)?;
-    let ticket = match office.take_plan(alloc, microseconds(rt), plan.clone()?) {
-        Ok((_change, ticket)) => ticket,
+    let begun = Office::begin(alloc, ledger, microseconds(rt), plan.clone()?);
+    let (office, ticket) = match begun {
+        Ok(begun) => begun,
         Err(PutFault::Memory) => return Err(RunFault::Memory),
         Err(_) => return Err(RunFault::Write),
     };
@@ -223,7 +223,9 @@ pub(crate) fn gateway<
         return Ok(DONE);
     };
     if fault == RunFault::Write {
-        let _ = eprintln!(rt; "{path}: the log can't be written any more: look at its disk, and whether it is where it was");
+        let _ = eprintln!(rt;
+            "{path}: the log can't be written any more: look at its disk, and whether it is where it was"
+        );
     }
     Err(Ended::Run(fault))
 }

@@ -24,10 +24,11 @@ pub(crate) struct Hub<'f, J: Naming, S: Storage + Drop, R: Wait> {
     pub(crate) plans: Plans,
     pub(crate) lines: Lines,
     pub(crate) watch: Watch,
-    /// How many connections are open, how many there were, and how many messages were accepted since the start.
+    /// How many connections are open; and how many there were, how many messages were accepted, and how many plans were taken since the start.
     pub(crate) open: AtomicU64,
     pub(crate) sessions: AtomicU64,
     pub(crate) accepted: AtomicU64,
+    pub(crate) taken: AtomicU64,
     // how many sessions have a turn for a long message
     turns: AtomicU64,
     /// How many sessions wait for a turn.
@@ -57,6 +58,7 @@ impl<'f, J: Naming, S: Storage + Drop, R: Wait> Hub<'f, J, S, R> {
             open: AtomicU64::new(0),
             sessions: AtomicU64::new(0),
             accepted: AtomicU64::new(0),
+            taken: AtomicU64::new(0),
             turns: AtomicU64::new(0),
             waiting: AtomicU64::new(0),
             is_short: AtomicBool::new(false),

@@ -81,9 +81,11 @@ fn receivers_of<J: Naming, S: Storage + Drop, R: Wait + Clock + AllocGlobal>(
     let alloc = hub.rt.alloc();
     let mut receivers = Vec::new(alloc);
     for Shown {
-        line, stand, left, ..
-    } in &all_shown(hub)?
-    {
+        line,
+        stand,
+        left,
+        ..
+    } in &all_shown(hub)? {
         receivers.push(Receiver {
             name: Vec::from_slice(alloc, &line.name)?,
             is_connected: stand.is_connected,
@@ -104,9 +106,7 @@ fn receivers_of<J: Naming, S: Storage + Drop, R: Wait + Clock + AllocGlobal>(
 pub(crate) fn figures_of<J: Naming, S: Storage + Drop, R: Wait + Clock + AllocGlobal>(
     hub: &Hub<'_, J, S, R>,
 ) -> Result<Figures, AllocError> {
-    let office = hub.journal.lock(hub.rt);
-    let (plan, entries) = (office.current().version, office.ledger.state().next());
-    drop(office);
+    let entries = hub.journal.lock(hub.rt).ledger.state().next();
     let Seen {
         refusals,
         codes,
@@ -115,7 +115,7 @@ pub(crate) fn figures_of<J: Naming, S: Storage + Drop, R: Wait + Clock + AllocGl
     Ok(Figures {
         time: time_in(stamp_of(hub.rt, None).unwrap_or(hub.start).digits()),
         rounds: 0,
-        plan,
+        plan: hub.taken.load(Ordering::SeqCst),
         accepted: hub.accepted.load(Ordering::SeqCst),
         refused,
         open: hub.open.load(Ordering::SeqCst),

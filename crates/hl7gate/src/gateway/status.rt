@@ -105,7 +105,11 @@ pub(crate) fn state<J: Naming, S: Storage + Drop, R: Wait + Clock + AllocGlobal>
         ..
     } = figures_of(hub)?;
     let alloc = hub.rt.alloc();
-    let room = if is_short { "is short of room" } else { "has room" };
+    let room = if is_short {
+        "is short of room"
+    } else {
+        "has room"
+    };
     let mut text = if is_json {
         format!(in alloc;
             "{{\"plan\":{plan},\"accepted\":{accepted},\"refused\":{refused},\"connections\":{open},\"sessions\":{sessions},\"short_of_room\":{is_short},\"receivers\":["
