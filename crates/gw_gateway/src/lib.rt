@@ -1,13 +1,11 @@
 //! A gateway whose journal is its log.
 //!
 //! An [`Office`] lies under the journal's lock: the ledger, and the plan in force. [`AtLog`] judges a sender's messages: what it accepts
-//! stands in the log before its answer goes out.
+//! stands in the log, and on the disk, before its answer goes out.
 #![tactic(auto)]
 
 mod fault;
-mod judge;
-mod office;
+mod plans;
 
 pub use fault::PutFault;
-pub use judge::{AtLog, Bells, Times};
-pub use office::{ByPlans, Change, InForce, Office};
+pub use plans::InForce;
