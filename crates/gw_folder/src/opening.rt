@@ -9,7 +9,10 @@ use std::os::fd::AsRawFd;
 use std::rt::Files;
 
 // Opens what has to be a folder. The dot sees to that, and a pipe isn't waited for.
-pub(crate) fn open_folder<R: Files<File = File> + AllocGlobal>(rt: &R, path: &str) -> io::Result<File> {
+pub(crate) fn open_folder<R: Files<File = File> + AllocGlobal>(
+    rt: &R,
+    path: &str,
+) -> io::Result<File> {
     if path.is_empty() {
         return Err(io::Error::from_raw_os_error(libc::ENOENT));
     }

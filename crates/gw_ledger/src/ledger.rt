@@ -13,7 +13,7 @@ ghost use Rattle.gw_ledger.specs.own.Steps.{IsAhead};
 use crate::fault::LedgerFault;
 use gw_due::laws::Rules;
 use gw_due::{Entry, Event, SpellFault, State, StateFault, spell};
-use gw_journal::{Desk, Done, Job, JournalFault, Naming, Opened, Receipt, Storage, Ticket};
+use gw_journal::{Desk, Done, Front, Job, JournalFault, Naming, Opened, Receipt, Storage, Ticket};
 use std::alloc::Global;
 use std::marker::{Model, PhantomData};
 
@@ -253,6 +253,13 @@ impl<J: Naming, S: Storage + Drop, R: Rules> Ledger<J, S, R> {
         ensures failed { IsFalse result → (self.new ≡ self.old) ⊎ IsSome self.new.desk.fault }
     {
         self.desk.note(place, bytes)
+    }
+
+    /// What was seen of the journal: all of it.
+    pub fn front(&self) -> &Front<J>
+        ensures { result.now ≡ self.now.desk.history }
+    {
+        self.desk.front()
     }
 
     /// Why nothing more is asked of the journal, if that is so.

@@ -182,7 +182,7 @@ module _ {S : Type 0} (Settles : S → S → ℕ → Option Message → Outcome 
       → Ends (AllExchanged Settles Secures left old new before after') (λ fault. SomeExchanged Settles Secures Breaks Withholds left old new before after') (Err Write)
   gathers_unsent mid new here after after' g c p secures part =
       streams.write (some_of mid mid new here here [] after after' g c (length p.done) p (goes_nowhere here) (not_yet []) (secured_last secures)
-          (sent_with mid here after after' g c p part))
+      (sent_with mid here after after' g c p part))
 
   -- what was settled is withheld
   pub gathers_withheld : (mid new : S) (here : Place) (after : Option (List ℕ)) (g : List ℕ) (c : Counts)
@@ -190,7 +190,7 @@ module _ {S : Type 0} (Settles : S → S → ℕ → Option Message → Outcome 
       → Ends (AllExchanged Settles Secures left old new before after) (λ fault. SomeExchanged Settles Secures Breaks Withholds left old new before after) (Err Withheld)
   gathers_withheld mid new here after g c p holds =
       streams.withheld (some_of mid mid new here here [] after after g c p.kept p (goes_nowhere here) (not_yet []) (withheld holds)
-          (sent_before mid here after g c p))
+      (sent_before mid here after g c p))
 
   -- a content was not answered
   pub gathers_cut : (mid last new : S) (here there : Place) (content : List ℕ) (after after' : Option (List ℕ)) (g g' : List ℕ) (c : Counts) (failed : Bool)
@@ -200,15 +200,15 @@ module _ {S : Type 0} (Settles : S → S → ℕ → Option Message → Outcome 
   gathers_cut mid last new here there content after after' g g' c _ _ p goes begins same (sent secures all) =
       let whole = subst (Appends after after') same all in
       streams.memory (some_of mid last new here there (content ∷ []) after after' g c (length p.done) p goes begins (secured_last secures)
-          (sent_with mid here after after' g c p (g, whole, ([], sym (append-nil g)))))
+      (sent_with mid here after after' g c p (g, whole, ([], sym (append-nil g)))))
   gathers_cut mid last new here there content after after' g g' c _ _ p goes begins same (cut secures part) =
       streams.write (some_of mid last new here there (content ∷ []) after after' g c (length p.done) p goes begins (secured_last secures)
-          (sent_with mid here after after' g c p (subst (SendsPart after after') same part)))
+      (sent_with mid here after after' g c p (subst (SendsPart after after') same part)))
   gathers_cut mid last new here there content after after' g g' c _ _ p goes begins same (held holds stays) =
       subst (λ w. Ends (AllExchanged Settles Secures left old new before w) (λ e. SomeExchanged Settles Secures Breaks Withholds left old new before w) (Err Withheld))
-          (sym stays)
-          (streams.withheld (some_of mid last new here there (content ∷ []) after after g c p.kept p goes begins (withheld holds)
-              (sent_before mid here after g c p)))
+      (sym stays)
+      (streams.withheld (some_of mid last new here there (content ∷ []) after after g c p.kept p goes begins (withheld holds)
+      (sent_before mid here after g c p)))
 
   -- the stream has no block more
   pub gathers_stop : (new : S) (here there : Place) (after : Option (List ℕ)) (g : List ℕ) (c : Counts) (fault : RunFault)
