@@ -4,6 +4,7 @@ use Rattle.std.specs.List.{AllZip}
 use Rattle.gw_due.specs.Due.{Name, names}
 use Rattle.gw_due.specs.Events.{Event, Planned}
 use Rattle.gw_journal.specs.declared.event.Event as happened
+use Rattle.gw_ledger.specs.Accepting.{LookState}
 use Rattle.gw_ledger.specs.Finding.{InJournal}
 use Rattle.gw_plan.specs.Held.{PlanHeld}
 use Rattle.gw_plan.specs.Shapes.{ReceiverValue}
@@ -12,6 +13,10 @@ use Rattle.gw_gateway.specs.Routing.{IsNumber, IsRoutedBy}
 -- these are the numbers of these receivers, in order
 abbrev pub AreNumbers : List Name → List ReceiverValue → List ℕ → Type 0
 AreNumbers names = AllZip (IsNumber names)
+
+-- in the journal of this history this is the number of the receiver
+abbrev pub IsNamed : List (List ℕ) → ReceiverValue → ℕ → List happened.Event → Type 0
+IsNamed before receiver number = InJournal (λ log. IsNumber (names log) receiver number) before
 
 -- in the journal of this history these are the numbers of the receivers
 abbrev pub AreNamed : List (List ℕ) → List ReceiverValue → List ℕ → List happened.Event → Type 0
@@ -23,6 +28,10 @@ pub record PlanState : Type 0 where
   pub history : List happened.Event
   pub plan : PlanHeld
   pub numbers : List ℕ
+
+-- what was looked up
+abbrev pub look_of : PlanState → LookState
+look_of p = record { place = p.place; history = p.history }
 
 -- the plan of this text stands at this place, and these are the numbers of its receivers
 pub record Stands (place : ℕ) (plan : PlanHeld) (numbers : List ℕ) (log : List Event) : Type 0 where

@@ -2,7 +2,7 @@
 ghost use Rattle.std.specs.Prelude.{◌≡◌, IfOk};
 ghost use Rattle.std.specs.Arc.{arc_value};
 
-use gw_journal::Naming;
+use gw_journal::{Front, Naming};
 use gw_ledger::Look;
 use gw_plan::Plan;
 use std::alloc::AllocError;
@@ -12,7 +12,7 @@ use std::sync::Arc;
 /// A plan, its place in the log, and the number of each of its receivers there.
 #[derive(Drop)]
 pub struct InForce<J: Naming> {
-    pub(crate) look: Look<J>,
+    look: Look<J>,
     plan: Arc<Plan>,
     numbers: Arc<Vec<u32>>,
 }
@@ -40,7 +40,7 @@ impl<J: Naming> Model for InForce<J> {
 }
 
 impl<J: Naming> InForce<J> {
-    ghost use Rattle.gw_gateway.specs.Plans.{IsPlan};
+    ghost use Rattle.gw_gateway.specs.Plans.{IsPlan, look_of};
 
     // The plan that was looked up, of which it was seen that it stands there.
     pub(crate) fn new(look: Look<J>, plan: Arc<Plan>, numbers: Arc<Vec<u32>>) -> InForce<J>
@@ -64,17 +64,39 @@ impl<J: Naming> InForce<J> {
         }
     }
 
-    /// The same once more. It takes no memory but a count.
-    pub fn again(&self) -> Result<InForce<J>, AllocError>
-        ensures { IfOk result (λ p. p ≡ self.now) }
+    // The plan and the numbers once more. The clause `stands` says what the type keeps.
+    pub(crate) fn shared(&self) -> Result<(Arc<Plan>, Arc<Vec<u32>>), AllocError>
+        ensures plan { IfOk result (λ x. arc_value x.0 ≡ self.now.plan) }
+        ensures numbers { IfOk result (λ x. (arc_value x.1).items ≡ self.now.numbers) }
+        ensures stands { IsPlan J.before self.now }
     {
         let plan = Arc::try_clone(&self.plan)?;
         let numbers = Arc::try_clone(&self.numbers)?;
-        Ok(InForce {
-            look: self.look.again(),
-            plan,
-            numbers,
-        })
+        Ok((plan, numbers))
+    }
+
+    /// The same once more.
+    pub fn again(&self) -> Result<InForce<J>, AllocError>
+        ensures { IfOk result (λ p. p ≡ self.now) }
+    {
+        let (plan, numbers) = self.shared()?;
+        Ok(InForce::new(self.look.again(), plan, numbers))
+    }
+
+    /// What was seen of the journal, with its record.
+    pub fn front(&self) -> &Front<J>
+        ensures seen { result.now ≡ self.now.history }
+        ensures stands { IsPlan J.before self.now }
+    {
+        self.look.front()
+    }
+
+    // The look by which it is known.
+    pub(crate) fn look(&self) -> &Look<J>
+        ensures seen { result.now ≡ look_of self.now }
+        ensures stands { IsPlan J.before self.now }
+    {
+        &self.look
     }
 
     /// Its place in the log.
