@@ -29,6 +29,7 @@ use std::io::Eprint;
 use std::net::{Net, TcpListener, TcpStream};
 use std::os::fd::AsRawFd;
 use std::os::unix::net::UnixListener;
+use std::sync::atomic::Ordering;
 use std::sync::{Arc, Wait};
 use std::thread;
 use std::thread::Threads;
@@ -46,22 +47,21 @@ const LONG: usize = 67_108_864;
 /// Looks whether the disk has room.
 fn look_at_disk<J: Naming, S: Storage + Drop, R: Wait + Clock + Eprint>(hub: &Hub<'_, J, S, R>) {
     let room = hub.folder.room();
-    let is_short = room != Room::Enough;
-    if is_short != hub.is_short() {
-        let _ = if is_short {
-            eprintln!(hub.rt;
-                "the disk is short of room: messages are answered AR until 64 MB are free\n{}: free some room",
-                hub.folder.path
-            )
-        } else {
-            eprintln!(hub.rt; "the disk has room again: messages are taken")
-        };
+    let (is_short, is_full) = (room != Room::Enough, room == Room::Nothing);
+    let was_short = hub.is_short.swap(is_short, Ordering::SeqCst);
+    let was_full = hub.is_full.swap(is_full, Ordering::SeqCst);
+    if is_short && !was_short {
+        let _ = eprintln!(hub.rt;
+            "the disk is short of room: messages are answered AR until 64 MB are free\n{}: free some room",
+            hub.folder.path
+        );
     }
-    let is_full = room == Room::Nothing;
-    if is_full && !hub.is_full() {
+    if was_short && !is_short {
+        let _ = eprintln!(hub.rt; "the disk has room again: messages are taken");
+    }
+    if is_full && !was_full {
         let _ = eprintln!(hub.rt; "the disk is full: nothing is sent until there is some room");
     }
-    hub.set_room(is_short, is_full);
     if hub.folder.turn_long() {
         let _ = eprintln!(hub.rt;
             "{}/refusals.log has 64 MB: no line is added until it is cut",

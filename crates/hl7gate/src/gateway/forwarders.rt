@@ -15,6 +15,7 @@ use std::alloc::AllocError;
 use std::cell::Cell;
 use std::io::Eprint;
 use std::net::{Net, TcpListener, TcpStream};
+use std::sync::atomic::Ordering;
 use std::sync::{Arc, Wait};
 use std::thread;
 use std::time::{Clock, Duration};
@@ -37,7 +38,7 @@ impl<J: Naming, S: Storage + Drop, R: Wait + Clock + Eprint> Forwarded for Here<
     }
 
     fn is_held(&self) -> bool {
-        self.hub.is_full() || self.line.stand(self.hub.rt).is_held
+        self.hub.is_full.load(Ordering::SeqCst) || self.line.stand(self.hub.rt).is_held
     }
 
     // (the receiver may end its connection meanwhile)

@@ -33,8 +33,9 @@ pub(crate) struct Hub<'f, J: Naming, S: Storage + Drop, R: Wait> {
     turns: AtomicU64,
     /// How many sessions wait for a turn.
     pub(crate) waiting: AtomicU64,
-    is_short: AtomicBool,
-    is_full: AtomicBool,
+    /// Whether the disk is short of room; and whether it is full. Nothing is sent then: no acknowledgment could be kept.
+    pub(crate) is_short: AtomicBool,
+    pub(crate) is_full: AtomicBool,
     has_ended: AtomicBool,
     fault: Mutex<Option<RunFault>>,
 }
@@ -91,22 +92,6 @@ impl<'f, J: Naming, S: Storage + Drop, R: Wait> Hub<'f, J, S, R> {
     /// Why the gateway can't go on, where it can't.
     pub(crate) fn fault(&self) -> Option<RunFault> {
         *self.fault.lock(self.rt)
-    }
-
-    /// Whether the disk is short of room.
-    pub(crate) fn is_short(&self) -> bool {
-        self.is_short.load(Ordering::SeqCst)
-    }
-
-    /// Whether the disk is full. Nothing is sent then: no acknowledgment could be kept.
-    pub(crate) fn is_full(&self) -> bool {
-        self.is_full.load(Ordering::SeqCst)
-    }
-
-    /// What room the disk has, from here on.
-    pub(crate) fn set_room(&self, is_short: bool, is_full: bool) {
-        self.is_short.store(is_short, Ordering::SeqCst);
-        self.is_full.store(is_full, Ordering::SeqCst);
     }
 
     /// A connection was taken: its number, from 1, or None where there are `most` already.

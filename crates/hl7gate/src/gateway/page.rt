@@ -121,7 +121,7 @@ pub(crate) fn figures_of<J: Naming, S: Storage + Drop, R: Wait + Clock + AllocGl
         open: hub.open.load(Ordering::SeqCst),
         sessions: hub.sessions.load(Ordering::SeqCst),
         entries,
-        is_short: hub.is_short(),
+        is_short: hub.is_short.load(Ordering::SeqCst),
         has_failed: hub.fault().is_some(),
         receivers: receivers_of(hub)?,
         codes,

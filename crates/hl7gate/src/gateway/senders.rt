@@ -36,7 +36,7 @@ impl<J: Naming, S: Storage + Drop, R: Wait + Clock> Bells for Ringing<'_, '_, J,
     }
 
     fn has_room(&self) -> bool {
-        !self.hub.is_short()
+        !self.hub.is_short.load(Ordering::SeqCst)
     }
 
     fn accepted(&self, count: u64) {
