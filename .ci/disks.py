@@ -440,7 +440,7 @@ def no_room(gateway):
         same("what the gateway's end was", None, gateway.process.poll())
         gateway.kill()
         gateway.start(waits=False)
-        gateway.ends(3, ["fault 3", "folder/numbers: the file can't be made or written"])
+        gateway.ends(3, ["fault 3", "folder: the file can't be made or written"])
         same("what WARDS got", [], wards.blocks)
         others.unlink()
         gateway.start()

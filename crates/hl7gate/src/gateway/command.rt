@@ -173,23 +173,24 @@ fn print_waiting<J: Naming, S: Storage + Drop, R: Wait + Eprint>(hub: &Hub<'_, J
 }
 
 /// What the threads share, once the plan is in force, and on the disk.
-fn begin<'f, J: Naming, S: Storage + Drop, R: Runtime + Wait>(
+fn begin<'f, 'a, J: Naming, S: Storage + Drop, R: Runtime + Wait>(
     rt: &'f R,
     ledger: Ledger<J, S, ByPlans>,
     plan: Arc<Plan>,
     start: Stamp,
     folder: &'f Folder,
-) -> Result<Hub<'f, J, S, R>, RunFault> {
+) -> Result<Hub<'f, J, S, R>, Ended<'a>> {
     let alloc = rt.alloc();
+    let file = String::from_str(alloc, &folder.path)?;
     let begun = Office::begin(alloc, ledger, microseconds(rt), plan.clone()?);
     let (office, ticket) = match begun {
         Ok(begun) => begun,
-        Err(PutFault::Memory) => return Err(RunFault::Memory),
-        Err(_) => return Err(RunFault::Write),
+        Err(PutFault::Memory) => return Err(Ended::Run(RunFault::Memory)),
+        Err(_) => return Err(Ended::Unwritten { file }),
     };
     let hub = Hub::new(rt, alloc, start, folder, Journal::new(alloc, office))?;
     if hub.journal.settle(rt, &ticket).is_err() {
-        return Err(RunFault::Write);
+        return Err(Ended::Unwritten { file });
     }
     hub.plans.keep(rt, plan)?;
     Ok(hub)
