@@ -19,11 +19,6 @@ use Rattle.std.specs.contracts.net.TcpStream as TcpStream
 use Rattle.gw_ack.proofs.stamp.Stamp.TheSendSync as stamp
 use Rattle.gw_gate.proofs.Crossing.{Chapter-send, Gate-send}
 use Rattle.gw_run.proofs.Crossing.{LockedGate-sync, Receipts-send}
-use Rattle.hl7gate.proofs.gateway.hub.Hub.TheSendSync as hub
-use Rattle.hl7gate.specs.contracts.gateway.hub.Hub as Hub
-use Rattle.hl7gate.specs.contracts.gateway.relay.Handed as Handed
-use Rattle.hl7gate.specs.contracts.gateway.relay.Handover as Handover
-use Rattle.hl7gate.specs.contracts.gateway.relay.Relay as Relay
 use Rattle.hl7gate.specs.contracts.outcome.Outcome as Outcome
 use Rattle.hl7gate.specs.contracts.tickets.Tickets as Tickets
 use Rattle.hl7gate.specs.contracts.threads.Connection as Connection
@@ -60,24 +55,6 @@ Line-field a = search (Stream-send, crosses, sendable) depth 60 fits 50000
 
 pub Line-send : (a : NamedLft) → IsSend (Line.the_row a)
 Line-send a = as_row_send (Line.the_field a) (Line-field a)
-
--- ---- what a round of the gateway hands on
-
-Handed-send : IsSend (Handed.the_field).row
-Handed-send = search (Gate-send, crosses, sendable) depth 60 fits 50000
-
-Handover-send : IsSend (Handover.the_field).row
-Handover-send = search (Handed-send, Gate-send, crosses, sendable) depth 60 fits 50000
-
-Relay-field : IsSync (Relay.the_field).row
-Relay-field = search (Handover-send, crosses, sendable) depth 60 fits 50000
-
-pub Relay-shared : (ℓ : Lifetime) (κ : Lft) → IsSend (ShrRef ℓ κ Relay.the_row)
-Relay-shared ℓ κ = shr_send ℓ κ Relay.the_row (as_row_sync Relay.the_field Relay-field)
-
--- `&Hub`, by what its fields are
-pub Hub-shared : (ℓ : Lifetime) (κ : Lft) (a : NamedLft) (R : RattleType) → IsSync R → IsSend (ShrRef ℓ κ (Hub.the_row a R))
-Hub-shared ℓ κ a R s = shr_send ℓ κ (Hub.the_row a R) (search (hub.the_sync, s))
 
 -- ---- a closure may be sent where what it captures may
 
