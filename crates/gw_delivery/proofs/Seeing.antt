@@ -1,5 +1,6 @@
 -- What was read of the log, and stands there.
 use Rattle.std.proofs.Common.{◌≡◌, ℕ, zero, suc, ◌+◌, ◌≤◌, Bool, true, false, List, [], ◌∷◌, ◌++◌, length, take, Some, slice_get, refl, ap, sym, ◌∙◌, subst, arith, append_assoc}
+use Rattle.std.specs.Prelude.{Result, Ok, Err, IfOk}
 use Rattle.std.specs.List.{fold}
 use Rattle.std.proofs.lemmas.List.{map-append}
 use Rattle.std.proofs.lemmas.List.Sums.{fold-append}
@@ -145,3 +146,8 @@ pub goes_on_in : (before : List (List ℕ)) (u : UnderState) (at : ℕ) (e : Eve
 goes_on_in before u at e history none is under p stands faithful entries spells =
     let now = later (IsUnder u.at u.text) before u.history history (under_stays u.at u.text) under p faithful entries spells in
     subst (λ n. IsUnder n u.text (events_of entries)) (sym is) (goes_on (events_of entries) u.at e u.text none now (stands faithful entries spells))
+
+pub entry_says : {X E : Type 0} (view : X → Entry) (before : List (List ℕ)) (s : SightState) (r : Result X E) → IsSight before s
+    → IfOk r (λ x. Fits (view x) × (s.bytes ≡ spelled (view x))) → IfOk r (λ x. InJournal (IsEventAt s.place (view x).event) before s.history)
+entry_says view before s (Ok x) is found = says before s (view x) is found
+entry_says view before s (Err e) is found = tt

@@ -26,6 +26,16 @@ fn is_left(state: &State, receiver: u32, place: u64) -> bool {
         .any(|one| one.number() == receiver && one.left() > 0 && one.from() <= place)
 }
 
+/// The same of any of these receivers.
+fn is_left_to(state: &State, receivers: &[u32], place: u64) -> bool {
+    for receiver in receivers {
+        if is_left(state, *receiver, place) {
+            return true;
+        }
+    }
+    false
+}
+
 /// The place at which what is left for receivers begins. None: nothing is left.
 pub fn left_from(state: &State) -> Option<u64> {
     let mut first: Option<u64> = None;
@@ -89,7 +99,7 @@ impl<V: Calls + Drop> Past<V> {
     ) -> Result<(), PageFault> {
         match event {
             Event::Accepted { to, .. } => {
-                if to.iter().any(|receiver| is_left(state, *receiver, at)) {
+                if is_left_to(state, to, at) {
                     return self.look_at_plan(plan);
                 }
             }
