@@ -99,7 +99,6 @@ fn go_on<
     most: u64,
 ) {
     listen_briefly(senders.as_raw_fd());
-    // (before anything is sent)
     look_at_disk(hub);
     thread::scope(
         thread::scope_env(),
@@ -147,7 +146,6 @@ fn go_on<
                     }
                 }
             }
-            // (who connects from here on is refused)
             drop(senders);
         },
     );

@@ -85,7 +85,6 @@ impl<'f, J: Naming, S: Storage + Drop, R: Wait> Hub<'f, J, S, R> {
         if first.is_none() {
             *first = Some(fault);
         }
-        drop(first);
         self.stop();
     }
 

@@ -85,8 +85,13 @@ impl Line {
     }
 
     /// Something is due, and on the disk.
-    pub(crate) fn ring<R: Wait>(&self, rt: &R) {
-        self.stand.lock(rt).is_rung = true;
+    pub(crate) fn ring<R: Wait + Clock>(&self, rt: &R) {
+        let now = Instant::now(rt).ok();
+        let mut stand = self.stand.lock(rt);
+        stand.is_rung = true;
+        if stand.since.is_none() {
+            stand.since = now;
+        }
         self.bell.notify_all();
     }
 
@@ -95,8 +100,7 @@ impl Line {
         let mut stand = self.stand.lock(rt);
         stand.is_held = is_held;
         stand.is_hurried = !is_held;
-        drop(stand);
-        self.ring(rt);
+        self.bell.notify_all();
     }
 
     /// Whether it isn't to wait for the next try.
