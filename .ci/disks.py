@@ -96,11 +96,11 @@ def damaged(gateway):
     for what, changed, line in (
         ("no first file", {it: files[it] for it in (two, three)}, r"folder: "),
         ("no second file", {it: files[it] for it in (one, three)}, is_one(2)),
-        ("no third file", {it: files[it] for it in (one, two)}, is_one(2)),
+        ("no third file", {it: files[it] for it in (one, two)}, is_one(3)),
         ("an empty second file", {**files, two: b""}, is_one(2)),
-        ("an empty third file", {**files, three: b""}, is_one(2)),
+        ("an empty third file", {**files, three: b""}, is_one(3)),
         ("two files exchanged", {one: files[two], two: files[one], three: files[three]}, r"folder: "),
-        ("a file twice", {**files, name(4): files[two]}, is_one(4)),
+        ("a file twice", {**files, name(4): files[two]}, is_one("[45]")),
         ("the first file cut", {**files, one: files[one][:-40]}, is_one(1)),
         ("the second file cut", {**files, two: files[two][:-1]}, is_one(2)),
         ("the last file cut", {**files, three: files[three][:-10]}, is_one(3)),
@@ -440,7 +440,7 @@ def no_room(gateway):
         same("what the gateway's end was", None, gateway.process.poll())
         gateway.kill()
         gateway.start(waits=False)
-        gateway.ends(3, ["fault 3", "folder/numbers: the file can't be made or written"])
+        gateway.ends(3, ["fault 3", "folder: the file can't be made or written"])
         same("what WARDS got", [], wards.blocks)
         others.unlink()
         gateway.start()

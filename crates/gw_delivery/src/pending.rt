@@ -219,7 +219,7 @@ impl<'a, J: Naming, S: Storage + Drop, V: Calls + Drop, R: Wait, L: Line, T: Tim
             return false;
         }
         if let Some(from) = self.from
-            && from != next.found().from()
+            && from > next.found().from()
         {
             return false;
         }

@@ -1,5 +1,5 @@
 -- The plan in force, and how it is known.
-use Rattle.std.specs.Prelude.{◌≡◌, ℕ, List, slice_get, Some}
+use Rattle.std.specs.Prelude.{◌≡◌, ℕ, List, length, slice_get, Some}
 use Rattle.std.specs.List.{AllZip}
 use Rattle.gw_due.specs.Due.{Name, names}
 use Rattle.gw_due.specs.Events.{Event, Planned}
@@ -38,8 +38,9 @@ pub record Stands (place : ℕ) (plan : PlanHeld) (numbers : List ℕ) (log : Li
   pub there : slice_get log place ≡ Some (Planned plan.text)
   pub named : AreNumbers (names log) plan.receivers numbers
 
-abbrev pub IsPlan : List (List ℕ) → PlanState → Type 0
-IsPlan before p = InJournal (Stands p.place p.plan p.numbers) before p.history
+pub record IsPlan (before : List (List ℕ)) (p : PlanState) : Type 0 where
+  pub stands : InJournal (Stands p.place p.plan p.numbers) before p.history
+  pub each : length p.numbers ≡ length p.plan.receivers
 
 -- by the plan these are the receivers of the message, whatever names were given beside those of its receivers
 abbrev pub GoesBy : PlanState → (to bytes : List ℕ) → Type 0

@@ -1,5 +1,5 @@
 //! What lies under the lock of a gateway's journal.
-ghost use Rattle.std.specs.Prelude.{◌≡◌, ◌↔◌, ◌≤◌, ◌+◌, map, Some, IfOk, IfErr, IfSome, IsErrOf, IsNone, IsSome, OnErr, OnOk};
+ghost use Rattle.std.specs.Prelude.{◌≡◌, ◌↔◌, ◌≤◌, ◌+◌, length, map, IfOk, IfErr, IfSome, IsErrOf, IsNone, IsSome, OnErr, OnOk, Some};
 ghost use Rattle.std.specs.Arc.{arc_value};
 ghost use mathlib.Core.List.{IsPrefix};
 ghost use Rattle.gw_due.specs.Events as events;
@@ -101,6 +101,7 @@ fn name_all<J: Naming, S: Storage + Drop>(
     new: &mut Vec<u32>,
 ) -> Result<Vec<u32>, PutFault>
     ensures named { IfOk result (λ numbers. AreNamed J.before (map receiver_value receivers.now) numbers.items ledger.new.desk.history) }
+    ensures each { IfOk result (λ numbers. length numbers.items ≡ length receivers.now) }
 {
     let mut numbers = Vec::new(alloc);
     for receiver in receivers {
@@ -118,6 +119,7 @@ fn put_plan<J: Naming, S: Storage + Drop>(
     numbers: Arc<Vec<u32>>,
 ) -> Result<(InForce<J>, Ticket<J>), PutFault>
     requires named { AreNamed J.before (arc_value plan).receivers (arc_value numbers).items ledger.old.desk.history }
+    requires each { length (arc_value numbers).items ≡ length (arc_value plan).receivers }
     ensures plan { IfOk result (λ x. x.0.plan ≡ arc_value plan) }
     ensures numbers { IfOk result (λ x. x.0.numbers ≡ (arc_value numbers).items) }
     ensures in_force { IfOk result (λ x. IsInForce ledger.new (look_of x.0)) }

@@ -1,0 +1,112 @@
+-- How a message comes to its outcome.
+use Rattle.std.proofs.Common.{◌≡◌, ◌⊎◌, inl, inr, ℕ, ◌+◌, List, [], ◌∷◌, Option, None, Some, refl, ap, sym, ◌∙◌, subst, arith}
+use Rattle.std.specs.Prelude.{◌≢◌, Ok, Err}
+use mathlib.Core.List.{IsPrefix}
+use Rattle.gw_ack.specs.declared.reply.Reply.{Reply}
+use Rattle.gw_ack.specs.declared.reply.Reply.TheVariants.{Accept, Refuse, Reject}
+use Rattle.gw_due.specs.Events.{Event, Planned, Accepted}
+use Rattle.gw_due.specs.Spelling as spelling
+use Rattle.gw_er7.specs.Written.{written}
+use Rattle.gw_journal.specs.declared.event.Event as happened
+use Rattle.gw_journal.specs.Logs.{IsAt, TicketState, log_in}
+use Rattle.gw_journal.proofs.Logging.{at_later, log_later}
+use Rattle.gw_ledger.specs.Finding.{InJournal}
+use Rattle.gw_ledger.specs.Putting.{timed}
+use Rattle.gw_plan.specs.Admitted.{BreaksSo, ConformingHeld, IsAdmitted, IsRefused}
+use Rattle.gw_plan.specs.Held.{PlanHeld, plan_value}
+use Rattle.gw_plan.specs.Routing.{routed}
+use Rattle.gw_plan.specs.Whole.{spelled}
+use Rattle.gw_stream.specs.Answers.{Message}
+use Rattle.gw_stream.specs.Served.{Routed, SaidBy}
+use Rattle.gw_validate.specs.declared.breach.Breach.{Breach}
+use Rattle.gw_gateway.specs.Plans.{IsPlan, PlanState}
+use Rattle.gw_gateway.specs.Senders.{HasRecord, IsJudged, IsPlanned, IsSaid, Settles}
+use Rattle.gw_gateway.specs.Senders as senders
+use Rattle.gw_gateway.specs.Waiting.{GoesOn, IsAwaited, WaitState}
+use Rattle.gw_gateway.specs.own.Steps.{IsArrival, IsTaken, Says}
+use Rattle.gw_gateway.specs.own.Steps as steps
+use Rattle.gw_gateway.proofs.Answering.{judged_later, record_later, said_later}
+use Rattle.gw_gateway.proofs.Joining.{awaited_later, goes_both, journal_later}
+
+-- ---- what a plan says
+
+pub taken_so : (plan : PlanHeld) (version : ℕ) (m : Message) (c : ConformingHeld) → spelled plan.text ≡ Ok (plan_value plan) → IsAdmitted plan version m c → Says plan.text m Accept
+taken_so plan version m c spells a = record {
+  plan = plan_value plan;
+  spells = spells;
+  says = subst (λ r. SaidBy r m Accept) (sym a.routed_so) a.conforms;
+}
+
+pub nowhere_so : (plan : PlanHeld) (m : Message) (code : ℕ) → spelled plan.text ≡ Ok (plan_value plan) → routed (plan_value plan) m ≡ Err code → Says plan.text m (Reject code)
+nowhere_so plan m code spells none = record { plan = plan_value plan; spells = spells; says = subst (λ r. SaidBy r m (Reject code)) (sym none) refl }
+
+pub breaks_so : (plan : PlanHeld) (m : Message) (breach : Breach) → spelled plan.text ≡ Ok (plan_value plan) → BreaksSo plan m breach → Says plan.text m (Refuse breach)
+breaks_so plan m breach spells b = record {
+  plan = plan_value plan;
+  spells = spells;
+  says = subst (λ r. SaidBy r m (Refuse breach)) (sym b.routed_so) b.least;
+}
+
+pub reject_other : (code : ℕ) → Reject code ≢ Accept
+reject_other code same = absurd (cc (same))
+
+pub refuse_other : (breach : Breach) → Refuse breach ≢ Accept
+refuse_other breach same = absurd (cc (same))
+
+-- the plan in force says this of the message, in what was seen of the journal
+pub judged_so : (before : List (List ℕ)) (p : PlanState) (history : List happened.Event) (m : Message) (reply : Reply) → IsPlan before p → IsPrefix p.history history
+    → Says p.plan.text m reply → IsJudged before history m reply
+judged_so before p history m reply is seen says =
+    judged_later before p.history history m reply seen (record {
+      place = p.place;
+      text = p.plan.text;
+      stands = λ faithful entries spells. (is.stands faithful entries spells).there;
+      plan = says.plan;
+      spells = says.spells;
+      says = says.says;
+    })
+
+-- ---- what came of an arrival
+
+-- its record stands in what was seen of the journal
+pub record_put : (before : List (List ℕ)) (t : WaitState) (m : Message) (number time : ℕ) (to : List ℕ) (ticket : TicketState)
+    → IsAt ticket.place (spelling.spelled (timed time (Accepted number to (written m)))) (log_in before ticket.history) → IsPrefix ticket.history t.history
+    → ticket.place < t.upto → HasRecord (IsAwaited before t) m number
+record_put before t m number time to ticket there seen below = record {
+  place = ticket.place;
+  time = time;
+  to = to;
+  stands = record {
+    there = at_later ticket.place _ (log_in before ticket.history) (log_in before t.history) (log_later before ticket.history t.history seen) there;
+    below = below;
+  };
+}
+
+pub settles_taken : (before : List (List ℕ)) (s mid t : WaitState) (m : Message) (number : ℕ) (reply : Reply) → GoesOn s mid → GoesOn mid t
+    → IsJudged before mid.history m Accept → IsArrival before mid t m number reply → Settles before s t (Some m) number reply
+settles_taken before s mid t m number _ first on judged (steps.accepted _ record_) = record {
+  on = goes_both s mid t first on;
+  said = senders.accepted m number (judged_later before mid.history t.history m Accept on.history judged) record_;
+}
+settles_taken before s mid t m number _ first on judged (steps.unsettled _) = record { on = goes_both s mid t first on; said = senders.unsettled (Some m) number }
+
+pub settles_refused : (before : List (List ℕ)) (s mid t : WaitState) (m : Message) (number : ℕ) (why reply : Reply) → GoesOn s mid → GoesOn mid t
+    → IsJudged before mid.history m why → why ≢ Accept → (reply ≡ why) ⊎ (reply ≡ Reject 207) → Settles before s t (Some m) number reply
+settles_refused before s mid t m number why reply first on judged other (inl same) =
+    subst (λ r. Settles before s t (Some m) number r) (sym same) (record {
+      on = goes_both s mid t first on;
+      said = senders.judged m number why other (judged_later before mid.history t.history m why on.history judged);
+    })
+settles_refused before s mid t m number why reply first on judged other (inr same) =
+    subst (λ r. Settles before s t (Some m) number r) (sym same) (record { on = goes_both s mid t first on; said = senders.unsettled (Some m) number })
+
+-- it is rejected under 207
+pub settles_unsettled : (before : List (List ℕ)) (s t : WaitState) (what : Option Message) (number : ℕ) (reply : Reply) → GoesOn s t → reply ≡ Reject 207
+    → Settles before s t what number reply
+settles_unsettled before s t what number reply on same =
+    subst (λ r. Settles before s t what number r) (sym same) (record { on = on; said = senders.unsettled what number })
+
+-- it goes on from an earlier state
+pub settles_from : (before : List (List ℕ)) (s mid t : WaitState) (what : Option Message) (number : ℕ) (reply : Reply) → GoesOn s mid → Settles before mid t what number reply
+    → Settles before s t what number reply
+settles_from before s mid t what number reply first settles = record { on = goes_both s mid t first settles.on; said = settles.said }
