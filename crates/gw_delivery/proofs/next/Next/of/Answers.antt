@@ -13,5 +13,4 @@ invariant_of-result g c =
       history = c.longer-front.result;
     } in
     let found = rw c.front-2.ensures at c.longer-front.ensures.other in
-    let made = rw c.front.view_is at c.longer-front.ensures.one in
-    next_for g.J.Naming.before n c.args.found.history c.args.front c.place-place.ensures.found found c.requires.made made
+    next_for g.J.Naming.before n c.args.found.history c.args.front c.place-place.ensures.found found c.requires.made c.longer-front.ensures.one
