@@ -6,7 +6,7 @@ ghost use Rattle.gw_delivery.specs.Waiting.{Finds, GoesOn, IsPassed, Passes};
 
 use crate::fault::PageFault;
 use crate::finder::Finder;
-use crate::next::Next;
+use crate::next::{Next, longer};
 use crate::pages::Tail;
 use crate::plans::Plans;
 use gw_ack::Ack;
@@ -223,12 +223,7 @@ impl<'a, J: Naming, S: Storage + Drop, V: Calls + Drop, R: Wait, L: Line, T: Tim
         {
             return false;
         }
-        let front = if self.front.begins(next.front()) {
-            next.front().again()
-        } else {
-            self.front.again()
-        };
-        self.front = front;
+        self.front = longer(&self.front, next.front());
         self.next = Some(next);
         true
     }
