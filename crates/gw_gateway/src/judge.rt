@@ -228,17 +228,33 @@ impl<'a, J: Naming, S: Storage + Drop, R: Wait, C: Clock + Times + Drop, B: Bell
         }
     }
 
+    // Has a message arrive under a plan.
+    fn try_under(
+        &mut self,
+        alloc: Global,
+        under: &InForce<J>,
+        message: Message,
+    ) -> Result<Attempt, AllocError>
+        ensures ok { IfOk result (Attempts J.before self.old.waiting self.new.waiting message) }
+        ensures err { OnErr result (GoesOn self.old.waiting self.new.waiting) }
+    {
+        self.waiting.see(under.front());
+        match judge_by(alloc, under, message)? {
+            Judgement::Admitted(conforming) => self.arrive(alloc, under, &conforming),
+            Judgement::Refused(why) => {
+                let outcome = self.refuse(why)?;
+                Ok(Attempt::Settled(outcome))
+            }
+        }
+    }
+
     // Has a message arrive once, under the plan in force.
     fn try_once(&mut self, alloc: Global, message: Message) -> Result<Attempt, AllocError>
         ensures ok { IfOk result (Attempts J.before self.old.waiting self.new.waiting message) }
         ensures err { OnErr result (GoesOn self.old.waiting self.new.waiting) }
     {
         let under = self.journal.lock(self.rt).current.again()?;
-        self.waiting.see(under.front());
-        match judge_by(alloc, &under, message)? {
-            Judgement::Admitted(conforming) => self.arrive(alloc, &under, &conforming),
-            Judgement::Refused(why) => Ok(Attempt::Settled(self.refuse(why)?)),
-        }
+        self.try_under(alloc, &under, message)
     }
 
     // Has a message arrive, under the plan in force each time: where it is stale, again, four times at most; then it is rejected.
