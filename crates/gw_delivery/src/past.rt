@@ -20,10 +20,9 @@ pub struct Past<V: Calls + Drop> {
 
 /// Whether what is due to a receiver at this place is left for it.
 fn is_left(state: &State, receiver: u32, place: u64) -> bool {
-    state
-        .receivers()
-        .iter()
-        .any(|one| one.number() == receiver && one.left() > 0 && one.from() <= place)
+    state.receivers().iter().any(|one| one.number() == receiver
+        && one.left() > 0
+        && one.from() <= place)
 }
 
 /// The same of any of these receivers.
