@@ -105,7 +105,8 @@ impl<V: Calls + Drop> Past<V> {
             Event::Again { receiver, place } => {
                 if is_left(state, receiver, at) {
                     let _message = self.others.find(self.tail, place)?;
-                    return self.look_at_plan(self.others.plan());
+                    let plan = self.others.plan();
+                    return self.look_at_plan(plan);
                 }
             }
             _ => {}
