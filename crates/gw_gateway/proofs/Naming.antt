@@ -1,6 +1,8 @@
 -- The numbers that a journal gives to the names of receivers.
-use Rattle.std.proofs.Common.{◌≡◌, ℕ, zero, suc, ◌+◌, ◌<◌, ◌≤◌, List, [], ◌∷◌, ◌++◌, length, map, take, drop, Option, None, Some, slice_get, refl, ap, sym, ◌∙◌, subst, arith, append_assoc, append-nil}
+use Rattle.std.proofs.Common.{◌≡◌, ℕ, zero, suc, ◌+◌, ◌<◌, ◌≤◌, List, [], ◌∷◌, ◌++◌, length, map, take, drop, Option, None, Some, ◌⊎◌, inl, inr, slice_get, get_or, refl, ap, sym, ◌∙◌, subst, arith, append_assoc}
+use Rattle.std.specs.Prelude.{IfSome, IsNone, IsSome, Result, Ok, Err}
 use Rattle.std.specs.List.{AllByRecursion, AllZip, Contains}
+use Rattle.std.proofs.lemmas.List.{map-append, take_more}
 use Rattle.std.proofs.lemmas.List.Elements.{Contains-append_left, Contains-append_right, Contains-push}
 use mathlib.Core.List.{IsPrefix}
 use Rattle.gw_due.specs.Due.{Name, names, names_by}
@@ -13,7 +15,11 @@ use Rattle.gw_journal.specs.Logs.{IsAt, TicketState, log_in}
 use Rattle.gw_journal.proofs.Logging.{get_front}
 use Rattle.gw_ledger.specs.Ledgers.{LedgerState, Spells, events_of}
 use Rattle.gw_ledger.specs.Finding.{InJournal}
-use Rattle.gw_ledger.specs.Putting.{IsPut, timed}
+use Rattle.gw_ledger.specs.Putting.{IsPut, Puts, timed}
+use Rattle.gw_ledger.specs.Accepting.{IsInForce}
+use Rattle.gw_ledger.specs.declared.fault.LedgerFault.{LedgerFault}
+use Rattle.gw_ledger.specs.declared.fault.LedgerFault.TheVariants.{Journal}
+use Rattle.gw_journal.specs.declared.fault.JournalFault.{JournalFault}
 use Rattle.gw_plan.specs.Held.{PlanHeld}
 use Rattle.gw_plan.specs.Shapes.{ReceiverValue}
 use Rattle.gw_gateway.specs.Plans.{AreNamed, AreNumbers, IsNamed, IsPlan, PlanState, Stands}
@@ -113,3 +119,27 @@ put_stands before old new time plan numbers t put named each = record {
   };
   each = each;
 }
+
+-- one more of the receivers has its number
+pub receivers_more : {X : Type 0} (value : X → ReceiverValue) (before : List (List ℕ)) (xs : List X) (i : ℕ) (x : X) (numbers : List ℕ) (n : ℕ) (old new : List happened.Event)
+    → i < length xs → x ≡ get_or xs i x → IsPrefix old new → AreNamed before (map value (take i xs)) numbers old → IsNamed before (value x) n new
+    → AreNamed before (map value (take (i + 1) xs)) (numbers ++ n ∷ []) new
+receivers_more value before xs i x numbers n old new less is p all one =
+    let cut : take (i + 1) xs ≡ take i xs ++ x ∷ [] = take_more xs i x less ∙ ap (λ y. take i xs ++ y ∷ []) (sym is) in
+    let whole : map value (take (i + 1) xs) ≡ map value (take i xs) ++ value x ∷ [] = ap (map value) cut ∙ map-append value (take i xs) (x ∷ []) in
+    subst (λ rs. AreNamed before rs (numbers ++ n ∷ []) new) (sym whole)
+    (one_named_more before (map value (take i xs)) numbers (value x) n old new p all one)
+
+-- a plan that was put is found where it is looked up
+faultless : (o : Option JournalFault) (t : TicketState) (P : Type 0) → IfSome o (λ fault. (Ok {E = LedgerFault} t ≡ Err (Journal fault)) × P) → IsSome o → ⊥
+faultless None t P faulty some = some
+faultless (Some fault) t P faulty some = absurd (cc (faulty.0))
+
+pub no_look : {S : Type 0} (before : List (List ℕ)) (old new : LedgerState S) (time : ℕ) (text : List ℕ) (t : TicketState)
+    → Puts before old new (timed time (Planned text)) (Ok t) → IsSome new.desk.fault ⊎ IsNone new.state.plan → ⊥
+no_look before old new time text t puts (inl fault) =
+    let same : new.desk.fault ≡ old.desk.fault = ap (λ (l : LedgerState _). l.desk.fault) puts.ok.is in
+    faultless old.desk.fault t (new ≡ old) puts.faulty (subst (λ o. IsSome o) same fault)
+no_look before old new time text t puts (inr none) =
+    let now : new.state.plan ≡ Some old.state.next = ap (λ (l : LedgerState _). l.state.plan) puts.ok.is in
+    subst (λ o. IsNone o) now none

@@ -1,6 +1,7 @@
 -- By the plan under which a message was admitted it goes to the receivers of its route.
 use Rattle.std.proofs.Common.{◌≡◌, ℕ, zero, suc, ◌+◌, ◌<◌, ◌≤◌, List, [], ◌∷◌, ◌++◌, length, map, take, drop, Option, None, Some, slice_get, refl, ap, sym, ◌∙◌, subst, arith, append_assoc, append-nil}
 use Rattle.std.proofs.lemmas.Grind.{common_steps}
+use Rattle.std.proofs.lemmas.List.{length-map}
 use Rattle.std.specs.Prelude.{Bool, true, false, ◌||◌, nat_eq, Ok, Result}
 use Rattle.std.specs.List.{AllZip, list_any}
 use Rattle.gw_due.specs.Due.{Name, names, plan}
@@ -49,6 +50,18 @@ take_one {A} (suc k) (y ∷ xs) x there =
 pub take_all_legs : {A : Type 0} (xs : List A) → take (length xs) xs ≡ xs
 take_all_legs [] = refl
 take_all_legs (x ∷ xs) = ap (λ l. x ∷ l) (take_all_legs xs)
+
+pub first_all : {A : Type 0} (numbers : List ℕ) (legs : List (ℕ × A)) (k : ℕ) (to : List ℕ) → k ≡ length legs → AreFirst numbers (take k (map (λ (l : ℕ × A). l.0) legs)) to
+    → AreFirst numbers (map (λ (l : ℕ × A). l.0) legs) to
+first_all {A} numbers legs k to all first =
+    let long : k ≡ length (map (λ (l : ℕ × A). l.0) legs) = all ∙ sym (length-map legs (λ (l : ℕ × A). l.0)) in
+    subst (λ ls. AreFirst numbers ls to) (ap (λ n. take n (map (λ (l : ℕ × A). l.0) legs)) long ∙ take_all_legs (map (λ (l : ℕ × A). l.0) legs)) first
+
+-- a receiver has a number
+pub has_number : (numbers : List ℕ) (k : ℕ) → k < length numbers → slice_get numbers k ≡ None → ⊥
+has_number [] k less none = absurd (omega arith)
+has_number (n ∷ numbers) zero less none = absurd (cc (none))
+has_number (n ∷ numbers) (suc k) less none = has_number numbers k (omega arith) none
 
 pub same_legs : {A : Type 0} (f : A → MapBetween) (ls : List (ℕ × A)) → map (λ (l : Leg). l.0) (map (λ (l : ℕ × A). (l.0, f l.1)) ls) ≡ map (λ (l : ℕ × A). l.0) ls
 same_legs f [] = refl
