@@ -37,7 +37,7 @@ def logged(answer):
 
 class Receiver:
     """A receiver that takes one connection after another, and keeps what came. It acknowledges each block by the next of its codes, the last of them for ever.
-    `None` closes the connection instead."""
+    `None` closes the connection instead, and an empty one says nothing."""
 
     def __init__(self, codes=(b"AA",), port=0):
         self.codes, self.blocks, self.news, self.held = list(codes), [], threading.Condition(), None
@@ -87,6 +87,8 @@ class Receiver:
                     if code is None:
                         line.close()
                         return
+                    if not code:
+                        continue
                     line.sendall(b"\x0bMSH|^~\\&|||||||ACK|R|P|2.5.1\rMSA|%s|%s\r\x1c\r" % (code, control(found[0])))
 
     def has(self, stated, until):

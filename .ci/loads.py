@@ -63,10 +63,11 @@ def burst(gateway, receivers=20, senders=12, each=500):
     gateway.kill()
 
 
-def many_sessions(gateway, most=20_000, at_once=100):
+def many_sessions(gateway, most=10_000, at_once=100):
     """Sessions that send nothing, one after the other: none leaves anything behind."""
     (gateway.room / "plan").write_text(plan_for({"NOBODY": NOBODY}))
     gateway.start()
+    gateway.until += 60
     at, now = ("127.0.0.1", gateway.port), struct.pack("ii", 1, 0)
     for done in range(0, most, at_once):
         lines = [socket.create_connection(at, 5) for _ in range(at_once)]
@@ -138,9 +139,9 @@ def deaf(gateway, most=3):
             answer = line.ask([REPORT])[0]
             if time.monotonic() - since > most:
                 raise Differs(f"a swap, and an answer, took {time.monotonic() - since:.1f} s")
-        same("the answer's code", [b"AA"], re.findall(rb"MSA\|(\w+)\|", answer))
+            same("the answer's code", [b"AA"], re.findall(rb"MSA\|(\w+)\|", answer))
         gateway.wait("session 2: its sender didn't take an answer in time")
-        gateway.wait("session 2 ended: fault 3: the writer failed")
+    gateway.wait("session 2 ended: fault 3: the writer failed")
     gateway.kill()
 
 

@@ -1,3 +1,3 @@
-pub mod Made
 pub mod Seen
+pub mod Made
 pub mod Waiting

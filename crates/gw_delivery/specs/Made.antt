@@ -1,5 +1,5 @@
 -- What a receiver is sent of a message, by the log.
-use Rattle.std.specs.Prelude.{◌≡◌, ◌≤◌, ℕ, List, length, Some, Ok, slice_get}
+use Rattle.std.specs.Prelude.{◌≡◌, ℕ, List, Some, Ok, slice_get}
 use Rattle.gw_er7.specs.Message.{SegmentValue}
 use Rattle.gw_er7.specs.Reading.{Reads}
 use Rattle.gw_er7.specs.Written.{written}
@@ -10,6 +10,7 @@ use Rattle.gw_plan.specs.Translating.{MakesFor, Translates}
 use Rattle.gw_plan.specs.Whole.{spelled}
 use Rattle.gw_due.specs.Events.{Event, Accepted, Again}
 use Rattle.gw_due.specs.Due.{plan_at}
+use Rattle.gw_delivery.specs.Seen.{IsEventAt}
 
 -- the receiver at this place of a plan's list has this name
 pub record IsNamed (receivers : List ReceiverValue) (at : ℕ) (name : List ℕ) : Type 0 where
@@ -35,10 +36,6 @@ pub record IsMade (text name content bytes : List ℕ) : Type 0 where
   pub made : List SegmentValue
   pub makes : MakesFor plan message receiver made
   pub are : bytes ≡ written made
-
--- the event stands at this place of the log
-abbrev pub IsEventAt : ℕ → Event → List Event → Type 0
-IsEventAt place e log = slice_get log place ≡ Some e
 
 -- by the event at this place the message at that one is due to a receiver once more
 pub record IsAgainAt (place at : ℕ) (log : List Event) : Type 0 where

@@ -1,10 +1,14 @@
 -- What was read of the log, as evidence: it holds if what was read is what was written.
-use Rattle.std.specs.Prelude.{◌≡◌, ◌≤◌, ℕ, Bool, true, false, List, length}
+use Rattle.std.specs.Prelude.{◌≡◌, ◌≤◌, ℕ, Bool, true, false, List, length, Some, slice_get}
 use Rattle.gw_due.specs.Events.{Event, Planned}
 use Rattle.gw_due.specs.Due.{plan_at}
 use Rattle.gw_journal.specs.declared.event.Event as happened
 use Rattle.gw_journal.specs.Logs.{AreFaithful, IsAt, log_in}
 use Rattle.gw_ledger.specs.Finding.{InJournal}
+
+-- the event stands at this place of the log
+abbrev pub IsEventAt : ℕ → Event → List Event → Type 0
+IsEventAt place e log = slice_get log place ≡ Some e
 
 -- a record that was read, its place, and what was seen of the journal then
 pub record SightState : Type 0 where

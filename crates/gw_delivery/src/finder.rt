@@ -2,7 +2,8 @@
 ghost use Rattle.std.specs.Prelude.{◌≡◌, IfOk, IfSome};
 ghost use Rattle.gw_due.specs.Views as view;
 ghost use Rattle.gw_ledger.specs.Finding.{InJournal};
-ghost use Rattle.gw_delivery.specs.Made.{IsAgainAt, IsEventAt, IsMadeAt, IsMadeThere};
+ghost use Rattle.gw_delivery.specs.Made.{IsAgainAt, IsMadeAt, IsMadeThere};
+ghost use Rattle.gw_delivery.specs.Seen.{IsEventAt};
 
 use crate::fault::PageFault;
 use crate::made::made;

@@ -2,7 +2,7 @@
 ghost use Rattle.std.specs.Prelude.{◌≡◌, IfOk, IfSome};
 ghost use Rattle.gw_due.specs.Views as view;
 ghost use Rattle.gw_ledger.specs.Finding.{InJournal};
-ghost use Rattle.gw_delivery.specs.Made.{IsEventAt};
+ghost use Rattle.gw_delivery.specs.Seen.{IsEventAt};
 
 use crate::pages::Page;
 use gw_due::laws::Rules;

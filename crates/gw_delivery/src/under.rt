@@ -3,8 +3,7 @@ ghost use Rattle.std.specs.Prelude.{◌≡◌, IsFalse};
 ghost use Rattle.gw_due.specs.Events as events;
 ghost use Rattle.gw_due.specs.Views as view;
 ghost use Rattle.gw_ledger.specs.Finding.{InJournal};
-ghost use Rattle.gw_delivery.specs.Made.{IsEventAt};
-ghost use Rattle.gw_delivery.specs.Seen.{puts_plan};
+ghost use Rattle.gw_delivery.specs.Seen.{IsEventAt, puts_plan};
 
 use crate::sight::Sight;
 use gw_due::Event;

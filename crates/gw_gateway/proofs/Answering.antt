@@ -181,7 +181,7 @@ module _ (before : List (List ℕ)) where
         → HasFirst bytes (map content_of (take k done) ++ (map content_of (drop k done) ++ others))
     first_cut bytes k done others first =
         let whole : map content_of done ≡ map content_of (take k done) ++ map content_of (drop k done) =
-            ap (map content_of) (sym (take-append-drop k done)) ∙ map-append content_of (take k done) (drop k done) in
+        ap (map content_of) (sym (take-append-drop k done)) ∙ map-append content_of (take k done) (drop k done) in
         subst (HasFirst bytes) (ap (λ l. l ++ others) whole ∙ append_assoc (map content_of (take k done)) (map content_of (drop k done)) others) first
 
     cut_of : (stream : Option (List ℕ)) (k : ℕ) (done : List Exchange) (others : List (List ℕ)) → IfSome stream (λ bytes. HasFirst bytes (map content_of done ++ others))

@@ -109,9 +109,14 @@ fn receivers_of<J: Naming>(
     Ok(to)
 }
 
-impl<'a, J: Naming, S: Storage + Drop, R: Wait, C: Clock + Times + Drop, B: Bells>
-    AtLog<'a, J, S, R, C, B>
-{
+impl<'a, J: Naming, S: Storage + Drop, R: Wait, C: Clock + Times + Drop, B: Bells> AtLog<
+    'a,
+    J,
+    S,
+    R,
+    C,
+    B,
+> {
     /// Nothing was accepted yet.
     pub fn new(
         alloc: Global,
@@ -207,10 +212,7 @@ impl<'a, J: Naming, S: Storage + Drop, R: Wait, C: Clock + Times + Drop, B: Bell
         let to = receivers_of(alloc, under, conforming)?;
         self.note_due(&to)?;
         let time = self.clock.time();
-        let put = self
-            .journal
-            .lock(self.rt)
-            .accept(time, under, to, &bytes);
+        let put = self.journal.lock(self.rt).accept(time, under, to, &bytes);
         match put {
             Ok((number, ticket)) => {
                 self.waiting.wait_for(&ticket);
@@ -221,13 +223,9 @@ impl<'a, J: Naming, S: Storage + Drop, R: Wait, C: Clock + Times + Drop, B: Bell
             Err(PutFault::Stale) => Ok(Attempt::Stale(conforming.message().copy(alloc)?)),
             Err(PutFault::Disk) => {
                 self.is_lost = true;
-                Ok(Attempt::Settled(
-                    self.outcome(Reply::Reject(INTERNAL), 0),
-                ))
+                Ok(Attempt::Settled(self.outcome(Reply::Reject(INTERNAL), 0)))
             }
-            Err(_) => Ok(Attempt::Settled(
-                self.outcome(Reply::Reject(INTERNAL), 0),
-            )),
+            Err(_) => Ok(Attempt::Settled(self.outcome(Reply::Reject(INTERNAL), 0))),
         }
     }
 
@@ -289,8 +287,7 @@ impl<'a, J: Naming, S: Storage + Drop, R: Wait, C: Clock + Times + Drop, B: Bell
 }
 
 impl<J: Naming, S: Storage + Drop, R: Wait, C: Clock + Times + Drop, B: Bells> Judge
-    for AtLog<'_, J, S, R, C, B>
-{
+    for AtLog<'_, J, S, R, C, B> {
     ghost use Rattle.gw_gateway.specs.Senders.{Secures, Settles};
     ghost use Rattle.gw_gateway.specs.Waiting.{GoesOn};
 

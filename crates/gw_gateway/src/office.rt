@@ -67,11 +67,7 @@ fn next_number(receivers: &[Receiver]) -> u32 {
 }
 
 // The number of the receiver of this name, a new one where it has none.
-fn number_for(
-    receivers: &[Receiver],
-    name: &[u8],
-    new: &mut Vec<u32>,
-) -> Result<u32, AllocError> {
+fn number_for(receivers: &[Receiver], name: &[u8], new: &mut Vec<u32>) -> Result<u32, AllocError> {
     if let Some(number) = number_of(receivers, name) {
         return Ok(number);
     }

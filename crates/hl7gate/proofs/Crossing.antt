@@ -4,14 +4,14 @@ use denote.Builtin.{u64}
 use denote.Exit.{no}
 use denote.Param.{arg, param}
 use denote.Ref.{NamedLft, ShrRef}
-use denote.Param.Send.{IsSend, IsSync, arg_send, param_send, shr_send, sendable}
-use denote.Param.SendFields.{as_row_send, as_row_sync, declared_send}
+use denote.Param.Send.{IsSend, IsSync, arg_send, param_send, shr_send, shr_sync, sendable}
+use denote.Param.SendFields.{as_row_send, as_row_sync, declared_send, declared_sync}
 use denote.Struct.Field.{row_field}
 use denote.Struct.Tuple.{TupleAt, type_at}
 use base.Fml.{Lft}
 use mathlib.Core.List.{[], ◌∷◌}
 use mir.Syntax.{Lifetime, Sym, Ty}
-use Rattle.std.proofs.Crossing.{crosses}
+use Rattle.std.proofs.Crossing.{crosses, Arc-send}
 use Rattle.std.specs.declared.sync.ledger.Ledger as ledger
 use Rattle.std.proofs.sync.ledger.Share.TheSendSync as share
 use Rattle.std.specs.contracts.net.SocketAddr as SocketAddr
@@ -19,11 +19,24 @@ use Rattle.std.specs.contracts.net.TcpStream as TcpStream
 use Rattle.gw_ack.proofs.stamp.Stamp.TheSendSync as stamp
 use Rattle.gw_gate.proofs.Crossing.{Chapter-send, Gate-send}
 use Rattle.gw_run.proofs.Crossing.{LockedGate-sync, Receipts-send}
-use Rattle.hl7gate.proofs.gateway.hub.Hub.TheSendSync as hub
+use Rattle.gw_delivery.proofs.Crossing.{Plans-sync}
+use Rattle.gw_gateway.proofs.Crossing.{Office-send}
+use Rattle.gw_gateway.specs.contracts.office.Office as Office
+use Rattle.gw_journal.proofs.journal.Journal.TheSendSync as journal
+use Rattle.gw_journal.specs.contracts.job.Done as Done
+use Rattle.gw_journal.specs.contracts.job.Job as Job
+use Rattle.gw_journal.specs.declared.book.Naming as naming
+use Rattle.gw_journal.specs.declared.storage.Storage as storage
+use Rattle.std_alloc.specs.contracts.arc.Arc as Arc
+use Rattle.std_heap.specs.contracts.Global as Heap
+use Rattle.std_heap.specs.contracts.GlobalAllocator.TheImpl.{ghosts}
+use Rattle.hl7gate.specs.contracts.gateway.folder.Folder as Folder
 use Rattle.hl7gate.specs.contracts.gateway.hub.Hub as Hub
-use Rattle.hl7gate.specs.contracts.gateway.relay.Handed as Handed
-use Rattle.hl7gate.specs.contracts.gateway.relay.Handover as Handover
-use Rattle.hl7gate.specs.contracts.gateway.relay.Relay as Relay
+use Rattle.hl7gate.specs.contracts.gateway.lines.Line as Waits
+use Rattle.hl7gate.specs.contracts.gateway.lines.Lines as Lines
+use Rattle.hl7gate.specs.contracts.gateway.lines.Stand as Stand
+use Rattle.hl7gate.specs.contracts.gateway.senders.Sender as Sender
+use Rattle.hl7gate.specs.contracts.gateway.watch.Watch as Watch
 use Rattle.hl7gate.specs.contracts.outcome.Outcome as Outcome
 use Rattle.hl7gate.specs.contracts.tickets.Tickets as Tickets
 use Rattle.hl7gate.specs.contracts.threads.Connection as Connection
@@ -61,28 +74,49 @@ Line-field a = search (Stream-send, crosses, sendable) depth 60 fits 50000
 pub Line-send : (a : NamedLft) → IsSend (Line.the_row a)
 Line-send a = as_row_send (Line.the_field a) (Line-field a)
 
--- ---- what a round of the gateway hands on
+-- ---- what the threads of a gateway share
 
-Handed-send : IsSend (Handed.the_field).row
-Handed-send = search (Gate-send, crosses, sendable) depth 60 fits 50000
+Stand-send : IsSend (Stand.the_field).row
+Stand-send = search (crosses, sendable) depth 60 fits 50000
 
-Handover-send : IsSend (Handover.the_field).row
-Handover-send = search (Handed-send, Gate-send, crosses, sendable) depth 60 fits 50000
+Waits-send : IsSend (Waits.the_field).row
+Waits-send = search (Stand-send, crosses, sendable) depth 60 fits 50000
 
-Relay-field : IsSync (Relay.the_field).row
-Relay-field = search (Handover-send, crosses, sendable) depth 60 fits 50000
+Waits-sync : IsSync (Waits.the_field).row
+Waits-sync = search (Stand-send, crosses, sendable) depth 60 fits 50000
 
-pub Relay-shared : (ℓ : Lifetime) (κ : Lft) → IsSend (ShrRef ℓ κ Relay.the_row)
-Relay-shared ℓ κ = shr_send ℓ κ Relay.the_row (as_row_sync Relay.the_field Relay-field)
+-- a receiver's line, as its forwarder gets it
+pub Waits-shared : IsSend (Arc.the_row Waits.the_row Heap.the_row ghosts)
+Waits-shared = Arc-send Waits.the_row (as_row_send Waits.the_field Waits-send) (as_row_sync Waits.the_field Waits-sync)
 
--- `&Hub`, by what its fields are
-pub Hub-shared : (ℓ : Lifetime) (κ : Lft) (a : NamedLft) (R : RattleType) → IsSync R → IsSend (ShrRef ℓ κ (Hub.the_row a R))
-Hub-shared ℓ κ a R s = shr_send ℓ κ (Hub.the_row a R) (search (hub.the_sync, s))
+Lines-sync : IsSync (Lines.the_field).row
+Lines-sync = search (Waits-send, Waits-sync, crosses, sendable) depth 60 fits 50000
+
+Watch-sync : IsSync (Watch.the_field).row
+Watch-sync = search (crosses, sendable) depth 60 fits 50000
+
+Folder-sync : IsSync (Folder.the_field).row
+Folder-sync = search (crosses, sendable) depth 60 fits 50000
+
+pub Sender-send : IsSend Sender.the_row
+Sender-send = as_row_send Sender.the_field (search (Stream-send, crosses, sendable) depth 60 fits 50000)
+
+Hub-sync : (a : NamedLft) (J S R : RattleType) (j : naming.Ghosts J.Denot) (s : storage.Ghosts S.Denot) → IsSend S → IsSync R → IsSync (Hub.the_row a J S R j s)
+Hub-sync a J S R j s h r = declared_sync (Hub.the_type a J S R j s) ?all
+
+-- `&Hub`, as a closure captures it
+pub Hub-shared : (ℓ : Lifetime) (κ : Lft) (a : NamedLft) (J S R : RattleType) (j : naming.Ghosts J.Denot) (s : storage.Ghosts S.Denot)
+    → IsSend S → IsSync R → IsSend (ShrRef ℓ κ (Hub.the_row a J S R j s))
+Hub-shared ℓ κ a J S R j s h r = shr_send ℓ κ (Hub.the_row a J S R j s) (Hub-sync a J S R j s h r)
 
 -- ---- a closure may be sent where what it captures may
 
 pub number-send : IsSend u64
 number-send = search sendable
+
+pub sent-one : (δ : Ty) (ν : Sym) (A : RattleType) → IsSend A → IsSend (param 1 (arg δ no (TupleAt ν (A ∷ []))))
+sent-one δ ν A a = param_send 1 (arg δ no (TupleAt ν (A ∷ []))) (arg_send δ no (TupleAt ν (A ∷ []))
+    (declared_send (type_at ν (A ∷ [])) (as_row_send (row_field A) a, tt)))
 
 pub sent-two : (δ : Ty) (ν : Sym) (A B : RattleType) → IsSend A → IsSend B → IsSend (param 1 (arg δ no (TupleAt ν (A ∷ B ∷ []))))
 sent-two δ ν A B a b = param_send 1 (arg δ no (TupleAt ν (A ∷ B ∷ []))) (arg_send δ no (TupleAt ν (A ∷ B ∷ []))

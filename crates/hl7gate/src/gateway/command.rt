@@ -2,7 +2,7 @@
 ghost use Rattle.std.specs.Thread.{IsSend, IsSync};
 
 use crate::ended::Ended;
-use crate::gateway::control::{attend_all, control_path};
+use crate::gateway::control::attend_all;
 use crate::gateway::folder::{Folder, Room, refuse_spools};
 use crate::gateway::forwarders::forward_all;
 use crate::gateway::hub::Hub;
@@ -29,6 +29,7 @@ use std::io::Eprint;
 use std::net::{Net, TcpListener, TcpStream};
 use std::os::fd::AsRawFd;
 use std::os::unix::net::UnixListener;
+use std::sync::atomic::Ordering;
 use std::sync::{Arc, Wait};
 use std::thread;
 use std::thread::Threads;
@@ -43,54 +44,24 @@ const LOOK: u64 = 25;
 /// How many bytes a file of the log has at least before the next is begun.
 const LONG: usize = 67_108_864;
 
-/// Where senders, words and readers of the page come in.
-#[derive(Drop)]
-struct Ports {
-    senders: TcpListener,
-    control: UnixListener,
-    pages: Option<Pages>,
-}
-
-impl Ports {
-    /// Listens at the folder's socket and at the addresses of the words.
-    fn open<'a, R: Runtime + Net<Stream = TcpStream, Listener = TcpListener>>(
-        rt: &R,
-        words: &ArgMatches<'a>,
-        folder: &Folder,
-    ) -> Result<Self, Ended<'a>> {
-        let path = control_path(rt.alloc(), &folder.path)?;
-        let Ok(control) = control::listen(rt, &path) else {
-            return Err(Ended::Unwritten { file: path });
-        };
-        let senders = listen(rt, words)?;
-        let pages = Pages::listen(rt, words)?;
-        Ok(Ports {
-            senders,
-            control,
-            pages,
-        })
-    }
-}
-
 /// Looks whether the disk has room.
 fn look_at_disk<J: Naming, S: Storage + Drop, R: Wait + Clock + Eprint>(hub: &Hub<'_, J, S, R>) {
     let room = hub.folder.room();
-    let is_short = room != Room::Enough;
-    if is_short != hub.is_short() {
-        let _ = if is_short {
-            eprintln!(hub.rt;
-                "the disk is short of room: messages are answered AR until 64 MB are free\n{}: free some room",
-                hub.folder.path
-            )
-        } else {
-            eprintln!(hub.rt; "the disk has room again: messages are taken")
-        };
+    let (is_short, is_full) = (room != Room::Enough, room == Room::Nothing);
+    let was_short = hub.is_short.swap(is_short, Ordering::SeqCst);
+    let was_full = hub.is_full.swap(is_full, Ordering::SeqCst);
+    if is_short && !was_short {
+        let _ = eprintln!(hub.rt;
+            "the disk is short of room: messages are answered AR until 64 MB are free\n{}: free some room",
+            hub.folder.path
+        );
     }
-    let is_full = room == Room::Nothing;
-    if is_full && !hub.is_full() {
+    if was_short && !is_short {
+        let _ = eprintln!(hub.rt; "the disk has room again: messages are taken");
+    }
+    if is_full && !was_full {
         let _ = eprintln!(hub.rt; "the disk is full: nothing is sent until there is some room");
     }
-    hub.set_room(is_short, is_full);
     if hub.folder.turn_long() {
         let _ = eprintln!(hub.rt;
             "{}/refusals.log has 64 MB: no line is added until it is cut",
@@ -120,15 +91,14 @@ fn go_on<
     J: Naming + Send + Sync,
     S: Storage + Drop + Send + Sync,
     R: Runtime + Threads + Wait + Net<Stream = TcpStream, Listener = TcpListener>,
->(hub: &Hub<'_, J, S, R>, ports: Ports, most: u64) {
-    let Ports {
-        senders,
-        control,
-        pages,
-    } = ports;
-    let (control, pages) = (&control, pages.as_ref());
+>(
+    hub: &Hub<'_, J, S, R>,
+    control: &UnixListener,
+    senders: TcpListener,
+    pages: Option<&Pages>,
+    most: u64,
+) {
     listen_briefly(senders.as_raw_fd());
-    // (before anything is sent)
     look_at_disk(hub);
     thread::scope(
         thread::scope_env(),
@@ -176,7 +146,6 @@ fn go_on<
                     }
                 }
             }
-            // (who connects from here on is refused)
             drop(senders);
         },
     );
@@ -202,23 +171,24 @@ fn print_waiting<J: Naming, S: Storage + Drop, R: Wait + Eprint>(hub: &Hub<'_, J
 }
 
 /// What the threads share, once the plan is in force, and on the disk.
-fn begin<'f, J: Naming, S: Storage + Drop, R: Runtime + Wait>(
+fn begin<'f, 'a, J: Naming, S: Storage + Drop, R: Runtime + Wait>(
     rt: &'f R,
     ledger: Ledger<J, S, ByPlans>,
     plan: Arc<Plan>,
     start: Stamp,
     folder: &'f Folder,
-) -> Result<Hub<'f, J, S, R>, RunFault> {
+) -> Result<Hub<'f, J, S, R>, Ended<'a>> {
     let alloc = rt.alloc();
-    let mut office = Office::new(alloc, ledger, plan.clone()?)?;
-    let ticket = match office.take_plan(alloc, microseconds(rt), plan.clone()?) {
-        Ok((_change, ticket)) => ticket,
-        Err(PutFault::Memory) => return Err(RunFault::Memory),
-        Err(_) => return Err(RunFault::Write),
+    let file = String::from_str(alloc, &folder.path)?;
+    let begun = Office::begin(alloc, ledger, microseconds(rt), plan.clone()?);
+    let (office, ticket) = match begun {
+        Ok(begun) => begun,
+        Err(PutFault::Memory) => return Err(Ended::Run(RunFault::Memory)),
+        Err(_) => return Err(Ended::Unwritten { file }),
     };
     let hub = Hub::new(rt, alloc, start, folder, Journal::new(alloc, office))?;
     if hub.journal.settle(rt, &ticket).is_err() {
-        return Err(RunFault::Write);
+        return Err(Ended::Unwritten { file });
     }
     hub.plans.keep(rt, plan)?;
     Ok(hub)
@@ -244,13 +214,17 @@ pub(crate) fn gateway<
     let hub = begin(rt, ledger, plan, start, &folder)?;
     print_waiting(&hub);
     begin_lines(&hub)?;
-    let ports = Ports::open(rt, words, &folder)?;
-    go_on(&hub, ports, most);
+    let control = control::listen(rt, path)?;
+    let senders = listen(rt, words)?;
+    let pages = Pages::listen(rt, words)?;
+    go_on(&hub, &control, senders, pages.as_ref(), most);
     let Some(fault) = hub.fault() else {
         return Ok(DONE);
     };
     if fault == RunFault::Write {
-        let _ = eprintln!(rt; "{path}: the log can't be written any more: look at its disk, and whether it is where it was");
+        let _ = eprintln!(rt;
+            "{path}: the log can't be written any more: look at its disk, and whether it is where it was"
+        );
     }
     Err(Ended::Run(fault))
 }

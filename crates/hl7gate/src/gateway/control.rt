@@ -1,4 +1,5 @@
 //! Words to a running gateway, over the socket FOLDER/control: a line comes, an answer goes back, and the connection ends.
+use crate::ended::Ended;
 use crate::gateway::hub::Hub;
 use crate::gateway::plans::take_file;
 use crate::gateway::resend::resend;
@@ -33,8 +34,8 @@ pub(crate) fn control_path(alloc: Global, folder: &str) -> Result<String, AllocE
     format!(in alloc; "{folder}/control")
 }
 
-/// The listener at this path. A socket that another gateway left is taken away: the folder is locked.
-pub(crate) fn listen<R: Files<File = File> + Net>(rt: &R, path: &str) -> io::Result<UnixListener> {
+/// Listens at a folder's socket. One that another gateway left is taken away: the folder is locked.
+fn bind<R: Files<File = File> + Net>(rt: &R, path: &str) -> io::Result<UnixListener> {
     match fs::remove_file(rt, path) {
         Err(error) if error.kind() != ErrorKind::NotFound => return Err(error),
         _ => {}
@@ -44,6 +45,18 @@ pub(crate) fn listen<R: Files<File = File> + Net>(rt: &R, path: &str) -> io::Res
     Ok(listener)
 }
 
+/// The listener at a folder's socket.
+pub(crate) fn listen<'a, R: Files<File = File> + Net + AllocGlobal>(
+    rt: &R,
+    folder: &str,
+) -> Result<UnixListener, Ended<'a>> {
+    let path = control_path(rt.alloc(), folder)?;
+    match bind(rt, &path) {
+        Ok(listener) => Ok(listener),
+        Err(_) => Err(Ended::Unwritten { file: path }),
+    }
+}
+
 /// Holds a receiver's messages back, or sends them on, or what it refused once more.
 fn tell_line<J: Naming, S: Storage + Drop, R: Runtime + Wait>(
     hub: &Hub<'_, J, S, R>,
@@ -51,11 +64,15 @@ fn tell_line<J: Naming, S: Storage + Drop, R: Runtime + Wait>(
     name: &str,
 ) -> Result<String, AllocError> {
     let alloc = hub.rt.alloc();
-    let Some(line) = hub.lines.named(hub.rt, name.as_bytes()) else {
+    let lines = hub.lines.all(hub.rt, alloc)?;
+    let Some(line) = lines
+        .iter()
+        .find(|line| line.name.as_slice() == name.as_bytes())
+    else {
         return format!(in alloc; "refused: no receiver of the plan has this name\n");
     };
     match word {
-        "resend" => resend(hub, &line),
+        "resend" => resend(hub, line),
         "hold" => {
             line.hold(hub.rt, true);
             format!(in alloc; "held: {name} is sent nothing until `go {name}`, or a restart\n")

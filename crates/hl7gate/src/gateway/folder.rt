@@ -56,18 +56,22 @@ pub(crate) fn or_unwritten<'a, T>(
     }
 }
 
-/// A file that is read and written, and that its owner alone may read. It is made where it isn't there.
-fn open_private<R: Files<File = File>>(rt: &R, path: &str) -> io::Result<File> {
+/// A file that its owner alone may read, made where it isn't there: one that is added to, or that is read and written.
+fn open_file<'a, R: Files<File = File> + AllocGlobal>(
+    rt: &R,
+    folder: &str,
+    name: &str,
+    is_added: bool,
+) -> Result<File, Ended<'a>> {
+    let path = format!(in rt.alloc(); "{folder}/{name}")?;
     let mut options = OpenOptions::new();
-    options.read(true).write(true).create(true).mode(0o600);
-    options.open(rt, path)
-}
-
-/// A file that is added to, and that its owner alone may read.
-fn open_added<R: Files<File = File>>(rt: &R, path: &str) -> io::Result<File> {
-    let mut options = OpenOptions::new();
-    options.append(true).create(true).mode(0o600);
-    options.open(rt, path)
+    options.create(true).mode(0o600);
+    if is_added {
+        options.append(true);
+    } else {
+        options.read(true).write(true);
+    }
+    or_unwritten(rt.alloc(), &path, options.open(rt, path.as_str()))
 }
 
 /// What room the disk has.
@@ -125,10 +129,8 @@ impl Folder {
         let alloc = rt.alloc();
         let page = format!(in alloc; "{path}/README")?;
         or_unwritten(alloc, &page, fs::write(rt, page.as_str(), PAGE))?;
-        let name = format!(in alloc; "{path}/reserve")?;
-        let reserve = or_unwritten(alloc, &name, open_private(rt, &name))?;
-        let name = format!(in alloc; "{path}/refusals.log")?;
-        let log = or_unwritten(alloc, &name, open_added(rt, &name))?;
+        let reserve = open_file(rt, path, "reserve", false)?;
+        let log = open_file(rt, path, "refusals.log", true)?;
         Ok(Folder {
             path: String::from_str(alloc, path)?,
             reserve,

@@ -15,21 +15,13 @@ use std::alloc::AllocError;
 use std::cell::Cell;
 use std::io::Eprint;
 use std::net::{Net, TcpListener, TcpStream};
+use std::sync::atomic::Ordering;
 use std::sync::{Arc, Wait};
 use std::thread;
 use std::time::{Clock, Duration};
 
 /// The most seconds between two tries.
 const LONGEST: u64 = 60;
-
-/// What comes after a connection.
-#[derive(Clone, Copy, PartialEq, Eq)]
-enum After {
-    /// Another one.
-    Another,
-    /// Nothing more is sent.
-    Nothing,
-}
 
 /// A line, as its forwarder sees it, and its connection. `is_over`: no more is sent over that.
 #[derive(Drop)]
@@ -46,7 +38,7 @@ impl<J: Naming, S: Storage + Drop, R: Wait + Clock + Eprint> Forwarded for Here<
     }
 
     fn is_held(&self) -> bool {
-        self.hub.is_full() || self.line.stand(self.hub.rt).is_held
+        self.hub.is_full.load(Ordering::SeqCst) || self.line.stand(self.hub.rt).is_held
     }
 
     // (the receiver may end its connection meanwhile)
@@ -148,8 +140,8 @@ impl<
         }
     }
 
-    // Sends what waits over this connection, until it ends.
-    fn send_over<O: Outbox + Aside>(&mut self, outbox: &mut O, stream: &TcpStream) -> After {
+    // Sends what waits over this connection, until it ends. False: nothing more is sent.
+    fn send_over<O: Outbox + Aside>(&mut self, outbox: &mut O, stream: &TcpStream) -> bool {
         let Here { hub, line, .. } = self.here;
         let (rt, sent) = (hub.rt, self.sent);
         for _ in rt.forever() {
@@ -183,31 +175,31 @@ impl<
         unreachable!()
     }
 
-    // Nothing more is sent over a connection, though nothing failed.
-    fn closed(&mut self) -> After {
+    // Nothing more is sent over a connection, though nothing failed. False: nor over another.
+    fn closed(&mut self) -> bool {
         let Here { hub, line, .. } = self.here;
         if hub.has_ended() {
-            return After::Nothing;
+            return false;
         }
         if line.stand(hub.rt).is_planned {
             let name = line.name.escape_ascii();
             let _ = eprintln!(hub.rt; "receiver {name} ended its connection; it is connected anew");
         }
         self.pause = self.pause.min(1);
-        After::Another
+        true
     }
 
-    // A connection, or what waits for its receiver, has failed.
-    fn ended_by(&mut self, fault: ForwardFault) -> After {
+    // A connection, or what waits for its receiver, has failed. False: nothing more is sent.
+    fn ended_by(&mut self, fault: ForwardFault) -> bool {
         let Here { hub, line, .. } = self.here;
         let name = line.name.escape_ascii();
         if hub.has_ended() {
-            return After::Nothing;
+            return false;
         }
         let _ = match fault {
             ForwardFault::Disk => {
                 hub.fail(RunFault::Write);
-                return After::Nothing;
+                return false;
             }
             ForwardFault::Memory => eprintln!(hub.rt; "receiver {name}: out of memory; it goes on"),
             _ if self.sent.get() => {
@@ -217,15 +209,15 @@ impl<
             }
             _ => eprintln!(hub.rt; "receiver {name} ended its connection; it is connected anew"),
         };
-        After::Another
+        true
     }
 
-    // Sends over a connection, which the line keeps meanwhile.
+    // Sends over a connection, which the line keeps meanwhile. False: nothing more is sent.
     fn go_over<O: Outbox + Aside>(
         &mut self,
         outbox: &mut O,
         stream: TcpStream,
-    ) -> Result<After, AllocError> {
+    ) -> Result<bool, AllocError> {
         let Here { hub, line, .. } = self.here;
         let stream = Arc::new(hub.rt.alloc(), stream)?;
         self.here.stream.set(Some(stream.clone()?));
@@ -261,7 +253,7 @@ impl<
                         "receiver {name}: a message is sent that it may have already: it wasn't acknowledged"
                     );
                 }
-                if let Ok(After::Nothing) = self.go_over(outbox, stream) {
+                if let Ok(false) = self.go_over(outbox, stream) {
                     return;
                 }
             } else if !is_down {

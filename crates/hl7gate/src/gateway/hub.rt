@@ -24,15 +24,18 @@ pub(crate) struct Hub<'f, J: Naming, S: Storage + Drop, R: Wait> {
     pub(crate) plans: Plans,
     pub(crate) lines: Lines,
     pub(crate) watch: Watch,
-    /// How many connections are open, how many there were, and how many messages were accepted since the start.
+    /// How many connections are open; and how many there were, how many messages were accepted, and how many plans were taken since the start.
     pub(crate) open: AtomicU64,
     pub(crate) sessions: AtomicU64,
     pub(crate) accepted: AtomicU64,
-    // how many sessions have a turn for a long message, and how many wait for one
+    pub(crate) taken: AtomicU64,
+    // how many sessions have a turn for a long message
     turns: AtomicU64,
-    waiting: AtomicU64,
-    is_short: AtomicBool,
-    is_full: AtomicBool,
+    /// How many sessions wait for a turn.
+    pub(crate) waiting: AtomicU64,
+    /// Whether the disk is short of room; and whether it is full. Nothing is sent then: no acknowledgment could be kept.
+    pub(crate) is_short: AtomicBool,
+    pub(crate) is_full: AtomicBool,
     has_ended: AtomicBool,
     fault: Mutex<Option<RunFault>>,
 }
@@ -56,6 +59,7 @@ impl<'f, J: Naming, S: Storage + Drop, R: Wait> Hub<'f, J, S, R> {
             open: AtomicU64::new(0),
             sessions: AtomicU64::new(0),
             accepted: AtomicU64::new(0),
+            taken: AtomicU64::new(0),
             turns: AtomicU64::new(0),
             waiting: AtomicU64::new(0),
             is_short: AtomicBool::new(false),
@@ -81,29 +85,12 @@ impl<'f, J: Naming, S: Storage + Drop, R: Wait> Hub<'f, J, S, R> {
         if first.is_none() {
             *first = Some(fault);
         }
-        drop(first);
         self.stop();
     }
 
     /// Why the gateway can't go on, where it can't.
     pub(crate) fn fault(&self) -> Option<RunFault> {
         *self.fault.lock(self.rt)
-    }
-
-    /// Whether the disk is short of room.
-    pub(crate) fn is_short(&self) -> bool {
-        self.is_short.load(Ordering::SeqCst)
-    }
-
-    /// Whether the disk is full. Nothing is sent then: no acknowledgment could be kept.
-    pub(crate) fn is_full(&self) -> bool {
-        self.is_full.load(Ordering::SeqCst)
-    }
-
-    /// What room the disk has, from here on.
-    pub(crate) fn set_room(&self, is_short: bool, is_full: bool) {
-        self.is_short.store(is_short, Ordering::SeqCst);
-        self.is_full.store(is_full, Ordering::SeqCst);
     }
 
     /// A connection was taken: its number, from 1, or None where there are `most` already.
@@ -136,20 +123,6 @@ impl<'f, J: Naming, S: Storage + Drop, R: Wait> Hub<'f, J, S, R> {
     /// A session gives its turn back.
     pub(crate) fn give_turn(&self) {
         self.turns.fetch_sub(1, Ordering::SeqCst);
-    }
-
-    /// A session waits for its turn, or doesn't any more.
-    pub(crate) fn set_waiting(&self, waits: bool) {
-        if waits {
-            self.waiting.fetch_add(1, Ordering::SeqCst);
-        } else {
-            self.waiting.fetch_sub(1, Ordering::SeqCst);
-        }
-    }
-
-    /// Whether a session waits for its turn.
-    pub(crate) fn is_waited_for(&self) -> bool {
-        self.waiting.load(Ordering::SeqCst) > 0
     }
 
     /// How many messages are left for a receiver.

@@ -52,13 +52,6 @@ pub(crate) fn look_at_all<J: Naming, S: Storage + Drop, R: Wait + Clock + Eprint
     }
 }
 
-/// Where what is left for receivers begins, or will begin; and the place of the next record.
-fn left<J: Naming, S: Storage + Drop, R: Wait>(hub: &Hub<'_, J, S, R>) -> (u64, u64) {
-    let office = hub.journal.lock(hub.rt);
-    let state = office.ledger.state();
-    (left_from(state).unwrap_or(state.next()), state.next())
-}
-
 /// Has the files go that aren't needed: they go when the next file is begun. None: what was read of them has to be read again.
 pub(crate) fn look_at_files<
     'f,
@@ -77,7 +70,10 @@ pub(crate) fn look_at_files<
         }
     };
     // (what comes to be left or refused after this look stands there, or behind it)
-    let (left, next) = left(hub);
+    let office = hub.journal.lock(hub.rt);
+    let next = office.ledger.state().next();
+    let left = left_from(office.ledger.state()).unwrap_or(next);
+    drop(office);
     match keeper.read_to(hub.tail(), next) {
         Ok(true) => {
             let needed = keeper.needed(left);

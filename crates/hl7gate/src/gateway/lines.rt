@@ -85,8 +85,13 @@ impl Line {
     }
 
     /// Something is due, and on the disk.
-    pub(crate) fn ring<R: Wait>(&self, rt: &R) {
-        self.stand.lock(rt).is_rung = true;
+    pub(crate) fn ring<R: Wait + Clock>(&self, rt: &R) {
+        let now = Instant::now(rt).ok();
+        let mut stand = self.stand.lock(rt);
+        stand.is_rung = true;
+        if stand.since.is_none() {
+            stand.since = now;
+        }
         self.bell.notify_all();
     }
 
@@ -95,8 +100,7 @@ impl Line {
         let mut stand = self.stand.lock(rt);
         stand.is_held = is_held;
         stand.is_hurried = !is_held;
-        drop(stand);
-        self.ring(rt);
+        self.bell.notify_all();
     }
 
     /// Whether it isn't to wait for the next try.
@@ -208,15 +212,6 @@ impl Lines {
     pub(crate) fn find<R: Wait>(&self, rt: &R, number: u32) -> Option<Arc<Line>> {
         let all = self.all.lock(rt);
         match all.iter().find(|line| line.number == number) {
-            Some(line) => line.clone().ok(),
-            None => None,
-        }
-    }
-
-    /// The line of this name.
-    pub(crate) fn named<R: Wait>(&self, rt: &R, name: &[u8]) -> Option<Arc<Line>> {
-        let all = self.all.lock(rt);
-        match all.iter().find(|line| line.name.as_slice() == name) {
             Some(line) => line.clone().ok(),
             None => None,
         }

@@ -8,7 +8,6 @@ use gw_er7::{ReadFault, read};
 use gw_journal::{Naming, Storage};
 use gw_mllp::{is_content, write_block};
 use gw_run::Clock as Stamps;
-use gw_stream::{Counts, RunFault};
 use memchr::memchr;
 use std::alloc::{AllocError, Global};
 use std::io::{Eprint, ErrorKind, Read, Write};
@@ -28,11 +27,6 @@ const PIECE: usize = 65_536;
 const VT: u8 = 0x0b;
 
 const CR: u8 = 0x0d;
-
-/// Whether a session ended at a message that is too long.
-pub(crate) fn is_overlong(answered: &Result<Counts, RunFault>) -> bool {
-    matches!(answered, Err(RunFault::Frame(2)))
-}
 
 /// The first segment of the message that begins in these bytes, with its CR, if it came.
 fn first_segment(bytes: &[u8]) -> Option<&[u8]> {

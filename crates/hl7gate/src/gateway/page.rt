@@ -74,38 +74,30 @@ impl Pages {
     }
 }
 
-/// A receiver's figures.
-fn receiver_of<R: Wait + Clock + AllocGlobal>(
-    rt: &R,
-    shown: &Shown,
-) -> Result<Receiver, AllocError> {
-    let Shown {
-        line,
-        stand,
-        left,
-        ..
-    } = shown;
-    Ok(Receiver {
-        name: line.name.as_slice().to_vec(rt.alloc())?,
-        is_connected: stand.is_connected,
-        is_held: stand.is_held,
-        down: stand.down(rt),
-        waiting: *left,
-        oldest: stand.stuck(rt),
-        sent: stand.sent,
-        aa: stand.aa,
-        ae: stand.ae,
-        ar: stand.ar,
-    })
-}
-
 /// The figures of the receivers.
 fn receivers_of<J: Naming, S: Storage + Drop, R: Wait + Clock + AllocGlobal>(
     hub: &Hub<'_, J, S, R>,
 ) -> Result<Vec<Receiver>, AllocError> {
-    let mut receivers = Vec::new(hub.rt.alloc());
-    for shown in &all_shown(hub)? {
-        receivers.push(receiver_of(hub.rt, shown)?)?;
+    let alloc = hub.rt.alloc();
+    let mut receivers = Vec::new(alloc);
+    for Shown {
+        line,
+        stand,
+        left,
+        ..
+    } in &all_shown(hub)? {
+        receivers.push(Receiver {
+            name: Vec::from_slice(alloc, &line.name)?,
+            is_connected: stand.is_connected,
+            is_held: stand.is_held,
+            down: stand.down(hub.rt),
+            waiting: *left,
+            oldest: stand.stuck(hub.rt),
+            sent: stand.sent,
+            aa: stand.aa,
+            ae: stand.ae,
+            ar: stand.ar,
+        })?;
     }
     Ok(receivers)
 }
@@ -114,9 +106,7 @@ fn receivers_of<J: Naming, S: Storage + Drop, R: Wait + Clock + AllocGlobal>(
 pub(crate) fn figures_of<J: Naming, S: Storage + Drop, R: Wait + Clock + AllocGlobal>(
     hub: &Hub<'_, J, S, R>,
 ) -> Result<Figures, AllocError> {
-    let office = hub.journal.lock(hub.rt);
-    let (plan, entries) = (office.current().version, office.ledger.state().next());
-    drop(office);
+    let entries = hub.journal.lock(hub.rt).ledger.state().next();
     let Seen {
         refusals,
         codes,
@@ -125,13 +115,13 @@ pub(crate) fn figures_of<J: Naming, S: Storage + Drop, R: Wait + Clock + AllocGl
     Ok(Figures {
         time: time_in(stamp_of(hub.rt, None).unwrap_or(hub.start).digits()),
         rounds: 0,
-        plan,
+        plan: hub.taken.load(Ordering::SeqCst),
         accepted: hub.accepted.load(Ordering::SeqCst),
         refused,
         open: hub.open.load(Ordering::SeqCst),
         sessions: hub.sessions.load(Ordering::SeqCst),
         entries,
-        is_short: hub.is_short(),
+        is_short: hub.is_short.load(Ordering::SeqCst),
         has_failed: hub.fault().is_some(),
         receivers: receivers_of(hub)?,
         codes,

@@ -13,6 +13,7 @@ use gw_plan::Plan;
 use gw_stream::RunFault;
 use std::alloc::{AllocError, Global};
 use std::fs::metadata;
+use std::sync::atomic::Ordering;
 use std::sync::{Arc, Wait};
 
 /// The receivers for which something is left, and those of the plan in force: their numbers and names, and whether the plan has them.
@@ -23,7 +24,7 @@ fn wanted<J: Naming, S: Storage + Drop, R: Runtime + Wait>(
     let mut wanted = Vec::new(alloc);
     let office = hub.journal.lock(hub.rt);
     for receiver in office.ledger.state().receivers() {
-        let is_planned = office.current().numbers.contains(&receiver.number());
+        let is_planned = office.current.numbers().contains(&receiver.number());
         if is_planned || receiver.left() > 0 {
             let name = Vec::from_slice(alloc, receiver.name())?;
             wanted.push((receiver.number(), name, is_planned))?;
@@ -58,12 +59,12 @@ fn take<J: Naming, S: Storage + Drop, R: Runtime + Wait>(
     let alloc = hub.rt.alloc();
     hub.plans.keep(hub.rt, plan.clone()?)?;
     let time = microseconds(hub.rt);
-    let (change, ticket) = hub.journal.lock(hub.rt).take_plan(alloc, time, plan)?;
+    let (_change, ticket) = hub.journal.lock(hub.rt).take_plan(alloc, time, plan)?;
     if hub.journal.settle(hub.rt, &ticket).is_err() {
         return Err(PutFault::Disk);
     }
     begin_lines(hub)?;
-    Ok(change.version)
+    Ok(hub.taken.fetch_add(1, Ordering::SeqCst).saturating_add(1))
 }
 
 /// The plan of a file, which has to be a regular one: a pipe would be waited for.
@@ -92,8 +93,8 @@ pub(crate) fn take_file<J: Naming, S: Storage + Drop, R: Runtime + Wait>(
             return format!(in alloc; "refused\n{lines}");
         }
     };
-    let current = hub.journal.lock(hub.rt).current().clone()?;
-    if !is_install && !current.plan.same_receivers(&plan) {
+    let current = hub.journal.lock(hub.rt).current.again()?;
+    if !is_install && !current.plan().same_receivers(&plan) {
         return format!(in alloc;
             "refused\nswap refused 3\n{path}: the plan has other receivers\n`install {path}` takes a plan with other receivers\n"
         );

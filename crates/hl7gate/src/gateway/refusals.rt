@@ -15,8 +15,8 @@ use std::sync::Wait;
 /// How many milliseconds one write waits for its sender.
 pub(crate) const TURN: u64 = 200;
 
-/// How many times an answer is waited for: a minute. Once the gateway ends, all answers of a session are: a second.
-const TURNS: u64 = 300;
+/// How many times an answer is waited for: 58 seconds. Once the gateway ends, all answers of a session are: a second.
+const TURNS: u64 = 290;
 
 const LAST_TURNS: u64 = 5;
 

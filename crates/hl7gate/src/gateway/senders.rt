@@ -1,14 +1,14 @@
 //! Sessions: no answer goes out before what it answers is on the disk.
 use crate::gateway::hub::Hub;
-use crate::gateway::overlong::{is_overlong, reject};
+use crate::gateway::overlong::reject;
 use crate::gateway::refusals::{Logged, TURN};
 use crate::gateway::sent::Sent;
 use crate::sockets::{pause, watch};
 use crate::stamps::Utc;
 use crate::threads::print_counts;
-use gw_gateway::{AtLog, Bells};
+use gw_gateway::{AtLog, Bells, answer_sender};
 use gw_journal::{Naming, Storage};
-use gw_stream::{Counts, Reads, RunFault, Writes, answer_blocks};
+use gw_stream::{Counts, Handed, Reads, RunFault, Writes};
 use std::io::{Eprint, ErrorKind};
 use std::net::{SocketAddr, TcpListener, TcpStream};
 use std::sync::Wait;
@@ -36,7 +36,7 @@ impl<J: Naming, S: Storage + Drop, R: Wait + Clock> Bells for Ringing<'_, '_, J,
     }
 
     fn has_room(&self) -> bool {
-        !self.hub.is_short()
+        !self.hub.is_short.load(Ordering::SeqCst)
     }
 
     fn accepted(&self, count: u64) {
@@ -51,15 +51,20 @@ fn answer<J: Naming, S: Storage + Drop, R: Wait + AllocGlobal + Clock + Eprint>(
 ) -> Result<Counts, RunFault> {
     let alloc = hub.rt.alloc();
     let mut sent = Sent::new(alloc, hub, &sender.stream);
-    let mut clock = Utc::new(hub.rt, hub.start);
+    let clock = Utc::new(hub.rt, hub.start);
     let bells = Ringing { hub };
-    let mut judge = AtLog::new(alloc, hub.rt, &hub.journal, &mut clock, &bells);
-    let mut writer = Writes::new(Logged::new(alloc, hub, &sender.stream, sender.number));
+    let mut judge = AtLog::new(alloc, hub.rt, &hub.journal, clock, &bells);
+    let mut writer = Handed::new(Writes::new(Logged::new(
+        alloc,
+        hub,
+        &sender.stream,
+        sender.number,
+    )));
     let mut reader = Reads::new(&mut sent);
-    let answered = answer_blocks(alloc, &mut judge, &mut reader, &mut writer);
+    let answered = answer_sender(alloc, &mut judge, &mut reader, &mut writer);
     sent.give_turn();
-    if is_overlong(&answered) {
-        let number = judge.number(alloc);
+    if let Err(RunFault::Frame(2)) = answered {
+        let number = judge.number();
         reject(hub, sender, sent.beginning(), number)?;
     }
     answered

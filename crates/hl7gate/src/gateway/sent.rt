@@ -9,6 +9,7 @@ use std::io::{Error, ErrorKind, Read};
 use std::mem::swap;
 use std::net::TcpStream;
 use std::sync::Wait;
+use std::sync::atomic::Ordering;
 use std::time::{Clock, Duration, Instant};
 
 /// The bytes that begin and end a message (MLLP Release 1).
@@ -149,16 +150,16 @@ impl<'a, 'f, J: Naming, S: Storage + Drop, R: Wait + Clock> Sent<'a, 'f, J, S, R
             if self.stand.size < FREE {
                 return Ok(());
             }
-            self.hub.set_waiting(true);
+            self.hub.waiting.fetch_add(1, Ordering::SeqCst);
             let has_turn = self.wait_for_turn();
-            self.hub.set_waiting(false);
+            self.hub.waiting.fetch_sub(1, Ordering::SeqCst);
             if has_turn {
                 self.turn = Instant::now(rt).ok();
                 return Ok(());
             }
             return Err(Error::from(ErrorKind::TimedOut));
         };
-        if since.elapsed(rt)?.as_secs() >= PATIENCE && self.hub.is_waited_for() {
+        if since.elapsed(rt)?.as_secs() >= PATIENCE && self.hub.waiting.load(Ordering::SeqCst) > 0 {
             return Err(Error::from(ErrorKind::TimedOut));
         }
         Ok(())

@@ -18,34 +18,27 @@ pub(crate) struct Shown {
     pub(crate) refused: u64,
 }
 
-/// How a line stands. None: the plan lacks its receiver, and nothing is left for it.
-fn stands<J: Naming, S: Storage + Drop, R: Wait + Clock + AllocGlobal>(
-    hub: &Hub<'_, J, S, R>,
-    line: Arc<Line>,
-) -> Result<Option<Shown>, AllocError> {
-    let stand = line.stand(hub.rt);
-    let office = hub.journal.lock(hub.rt);
-    let receivers = office.ledger.state().receivers();
-    match receivers.iter().find(|r| r.number() == line.number) {
-        Some(receiver) if stand.is_planned || receiver.left() > 0 => Ok(Some(Shown {
-            line,
-            stand,
-            address: Vec::from_slice(hub.rt.alloc(), receiver.address())?,
-            left: receiver.left(),
-            refused: receiver.refused(),
-        })),
-        _ => Ok(None),
-    }
-}
-
-/// How each receiver stands.
+/// How each receiver stands that is one of the plan, or for which something is left.
 pub(crate) fn all_shown<J: Naming, S: Storage + Drop, R: Wait + Clock + AllocGlobal>(
     hub: &Hub<'_, J, S, R>,
 ) -> Result<Vec<Shown>, AllocError> {
-    let mut all = Vec::new(hub.rt.alloc());
-    for line in hub.lines.all(hub.rt, hub.rt.alloc())? {
-        if let Some(one) = stands(hub, line)? {
-            all.push(one)?;
+    let alloc = hub.rt.alloc();
+    let mut all = Vec::new(alloc);
+    let lines = hub.lines.all(hub.rt, alloc)?;
+    let office = hub.journal.lock(hub.rt);
+    let receivers = office.ledger.state().receivers();
+    for line in lines {
+        let stand = line.stand(hub.rt);
+        if let Some(receiver) = receivers.iter().find(|r| r.number() == line.number)
+            && (stand.is_planned || receiver.left() > 0)
+        {
+            all.push(Shown {
+                line,
+                stand,
+                address: Vec::from_slice(alloc, receiver.address())?,
+                left: receiver.left(),
+                refused: receiver.refused(),
+            })?;
         }
     }
     Ok(all)
@@ -105,7 +98,11 @@ pub(crate) fn state<J: Naming, S: Storage + Drop, R: Wait + Clock + AllocGlobal>
         ..
     } = figures_of(hub)?;
     let alloc = hub.rt.alloc();
-    let room = if is_short { "is short of room" } else { "has room" };
+    let room = if is_short {
+        "is short of room"
+    } else {
+        "has room"
+    };
     let mut text = if is_json {
         format!(in alloc;
             "{{\"plan\":{plan},\"accepted\":{accepted},\"refused\":{refused},\"connections\":{open},\"sessions\":{sessions},\"short_of_room\":{is_short},\"receivers\":["

@@ -1,0 +1,3 @@
+pub mod Crossing
+pub mod Seeing
+pub mod Making
