@@ -1,6 +1,5 @@
 -- The numbers that a journal gives to the names of receivers.
-use Rattle.std.proofs.Common.{◌≡◌, ℕ, zero, suc, ◌+◌, ◌<◌, ◌≤◌, List, [], ◌∷◌, ◌++◌, length, map, take, drop, Option, None, Some, ◌⊎◌, inl, inr, slice_get, get_or, refl, ap, sym, ◌∙◌, subst, arith, append_assoc}
-use Rattle.std.specs.Prelude.{IfSome, IsNone, IsSome, Result, Ok, Err}
+use Rattle.std.proofs.Common.{◌≡◌, ℕ, zero, suc, ◌+◌, ◌<◌, ◌≤◌, List, [], ◌∷◌, ◌++◌, length, map, take, drop, Option, None, Some, slice_get, get_or, refl, ap, sym, ◌∙◌, subst, arith, append_assoc}
 use Rattle.std.specs.List.{AllByRecursion, AllZip, Contains}
 use Rattle.std.proofs.lemmas.List.{map-append, take_more}
 use Rattle.std.proofs.lemmas.List.Elements.{Contains-append_left, Contains-append_right, Contains-push}
@@ -15,11 +14,8 @@ use Rattle.gw_journal.specs.Logs.{IsAt, TicketState, log_in}
 use Rattle.gw_journal.proofs.Logging.{get_front}
 use Rattle.gw_ledger.specs.Ledgers.{LedgerState, Spells, events_of}
 use Rattle.gw_ledger.specs.Finding.{InJournal}
-use Rattle.gw_ledger.specs.Putting.{IsPut, Puts, timed}
-use Rattle.gw_ledger.specs.Accepting.{IsInForce}
-use Rattle.gw_ledger.specs.declared.fault.LedgerFault.{LedgerFault}
-use Rattle.gw_ledger.specs.declared.fault.LedgerFault.TheVariants.{Journal}
-use Rattle.gw_journal.specs.declared.fault.JournalFault.{JournalFault}
+use Rattle.gw_ledger.specs.Putting.{IsPut, timed}
+use Rattle.gw_ledger.specs.Accepting.{LookState}
 use Rattle.gw_plan.specs.Held.{PlanHeld}
 use Rattle.gw_plan.specs.Shapes.{ReceiverValue}
 use Rattle.gw_gateway.specs.Plans.{AreNamed, AreNumbers, IsNamed, IsPlan, PlanState, Stands}
@@ -130,16 +126,19 @@ receivers_more value before xs i x numbers n old new less is p all one =
     subst (λ rs. AreNamed before rs (numbers ++ n ∷ []) new) (sym whole)
     (one_named_more before (map value (take i xs)) numbers (value x) n old new p all one)
 
--- a plan that was put is found where it is looked up
-faultless : (o : Option JournalFault) (t : TicketState) (P : Type 0) → IfSome o (λ fault. (Ok {E = LedgerFault} t ≡ Err (Journal fault)) × P) → IsSome o → ⊥
-faultless None t P faulty some = some
-faultless (Some fault) t P faulty some = absurd (cc (faulty.0))
+pub one_longer : (xs : List ℕ) (x k : ℕ) → length xs ≡ k → length (xs ++ x ∷ []) ≡ k + 1
+one_longer [] x k is = omega (arith, is)
+one_longer (y ∷ xs) x zero is = absurd (omega (arith, is))
+one_longer (y ∷ xs) x (suc k) is = let e = one_longer xs x k (omega (arith, is)) in omega (arith, e)
 
-pub no_look : {S : Type 0} (before : List (List ℕ)) (old new : LedgerState S) (time : ℕ) (text : List ℕ) (t : TicketState)
-    → Puts before old new (timed time (Planned text)) (Ok t) → IsSome new.desk.fault ⊎ IsNone new.state.plan → ⊥
-no_look before old new time text t puts (inl fault) =
-    let same : new.desk.fault ≡ old.desk.fault = ap (λ (l : LedgerState _). l.desk.fault) puts.ok.is in
-    faultless old.desk.fault t (new ≡ old) puts.faulty (subst (λ o. IsSome o) same fault)
-no_look before old new time text t puts (inr none) =
-    let now : new.state.plan ≡ Some old.state.next = ap (λ (l : LedgerState _). l.state.plan) puts.ok.is in
-    subst (λ o. IsNone o) now none
+-- the plan that was put and looked up then
+pub looked_stands : {S : Type 0} (before : List (List ℕ)) (old new : LedgerState S) (time : ℕ) (text : List ℕ) (plan : PlanHeld) (numbers : List ℕ) (t : TicketState) (look : LookState)
+    → text ≡ plan.text → IsPut before old new (timed time (Planned text)) t → AreNamed before plan.receivers numbers old.desk.history → length numbers ≡ length plan.receivers
+    → new.state.plan ≡ Some look.place → look.history ≡ new.desk.history
+    → IsPlan before (record { place = look.place; history = look.history; plan = plan; numbers = numbers })
+looked_stands before old new time text plan numbers t look same put named each at seen =
+    let mine : IsPut before old new (timed time (Planned plan.text)) t = subst (λ x. IsPut before old new (timed time (Planned x)) t) same put in
+    let there = put_stands before old new time plan numbers t mine named each in
+    let moved : IsPlan before (record { place = look.place; history = new.desk.history; plan = plan; numbers = numbers }) =
+        subst (λ n. IsPlan before (record { place = n; history = new.desk.history; plan = plan; numbers = numbers })) (put_place before old new time look.place plan.text t mine at) there in
+    subst (λ h. IsPlan before (record { place = look.place; history = h; plan = plan; numbers = numbers })) (sym seen) moved
