@@ -114,6 +114,24 @@ pub settles_from : (before : List (List ℕ)) (s mid t : WaitState) (what : Opti
     → Settles before s t what number reply
 settles_from before s mid t what number reply first settles = record { on = goes_both s mid t first settles.on; said = settles.said }
 
+pub arrived_so : (before : List (List ℕ)) (s mid w t : WaitState) (m : Message) (n number time : ℕ) (reply : Reply) (to bytes : List ℕ) (ticket : TicketState)
+    → mid ≡ s → GoesOn mid w → t ≡ w → IsPrefix ticket.history w.history → ticket.place < w.upto → bytes ≡ written m
+    → IsAt ticket.place (spelling.spelled (timed time (Accepted n to bytes))) (log_in before ticket.history) → number ≡ n → reply ≡ Accept
+    → GoesOn s t × IsArrival before s t m number reply
+arrived_so before s mid w t m n number time reply to bytes ticket first on last seen below spells there same says =
+    let goes : GoesOn s w = subst (λ x. GoesOn x w) first on in
+    let mine : IsAt ticket.place (spelling.spelled (timed time (Accepted n to (written m)))) (log_in before ticket.history) =
+        subst (λ b. IsAt ticket.place (spelling.spelled (timed time (Accepted n to b))) (log_in before ticket.history)) spells there in
+    let arrival : IsArrival before s w m n Accept = steps.accepted n (record_put before w m n time to ticket mine seen below) in
+    (subst (λ x. GoesOn s x) (sym last) goes,
+    subst (λ x. IsArrival before s x m number reply) (sym last)
+    (subst (λ k. IsArrival before s w m k reply) (sym same) (subst (λ r. IsArrival before s w m n r) (sym says) arrival)))
+
+pub unsettled_so : (before : List (List ℕ)) (s mid t : WaitState) (m : Message) (number : ℕ) (reply : Reply) → mid ≡ s → t ≡ mid → reply ≡ Reject 207
+    → GoesOn s t × IsArrival before s t m number reply
+unsettled_so before s mid t m number reply first last says =
+    (subst (λ x. GoesOn s x) (sym (last ∙ first)) (stays s), subst (λ r. IsArrival before s t m number r) (sym says) (steps.unsettled number))
+
 -- ---- by results
 
 module _ {E : Type 0} (before : List (List ℕ)) (s mid t : WaitState) (first : GoesOn s mid) where

@@ -142,3 +142,11 @@ looked_stands before old new time text plan numbers t look same put named each a
     let moved : IsPlan before (record { place = look.place; history = new.desk.history; plan = plan; numbers = numbers }) =
         subst (λ n. IsPlan before (record { place = n; history = new.desk.history; plan = plan; numbers = numbers })) (put_place before old new time look.place plan.text t mine at) there in
     subst (λ h. IsPlan before (record { place = look.place; history = h; plan = plan; numbers = numbers })) (sym seen) moved
+
+-- the numbers of a plan stay those of its receivers
+pub repeated : (before : List (List ℕ)) (p : PlanState) (plan : PlanHeld) (numbers : List ℕ) (history : List happened.Event) → IsPlan before p → plan ≡ p.plan → numbers ≡ p.numbers
+    → IsPrefix p.history history → AreNamed before plan.receivers numbers history
+repeated before p plan numbers history is same each on =
+    subst (λ (q : PlanHeld). AreNamed before q.receivers numbers history) (sym same)
+    (subst (λ ns. AreNamed before p.plan.receivers ns history) (sym each)
+    (all_named_later before p.plan.receivers p.numbers p.history history on (λ faithful entries spells. (is.stands faithful entries spells).named)))

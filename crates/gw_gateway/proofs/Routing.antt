@@ -2,7 +2,7 @@
 use Rattle.std.proofs.Common.{◌≡◌, ℕ, zero, suc, ◌+◌, ◌<◌, ◌≤◌, List, [], ◌∷◌, ◌++◌, length, map, take, drop, Option, None, Some, slice_get, refl, ap, sym, ◌∙◌, subst, arith, append_assoc, append-nil}
 use Rattle.std.proofs.lemmas.Grind.{common_steps}
 use Rattle.std.proofs.lemmas.List.{length-map}
-use Rattle.std.specs.Prelude.{Bool, true, false, ◌||◌, nat_eq, Ok, Result}
+use Rattle.std.specs.Prelude.{Bool, true, false, ◌||◌, nat_eq, nat_lt, Ok, Result}
 use Rattle.std.specs.List.{AllZip, list_any}
 use Rattle.gw_due.specs.Due.{Name, names, plan}
 use Rattle.gw_due.specs.Events.{Event, Accepted, Planned}
@@ -57,11 +57,8 @@ first_all {A} numbers legs k to all first =
     let long : k ≡ length (map (λ (l : ℕ × A). l.0) legs) = all ∙ sym (length-map legs (λ (l : ℕ × A). l.0)) in
     subst (λ ls. AreFirst numbers ls to) (ap (λ n. take n (map (λ (l : ℕ × A). l.0) legs)) long ∙ take_all_legs (map (λ (l : ℕ × A). l.0) legs)) first
 
--- a receiver has a number
-pub has_number : (numbers : List ℕ) (k : ℕ) → k < length numbers → slice_get numbers k ≡ None → ⊥
-has_number [] k less none = absurd (omega arith)
-has_number (n ∷ numbers) zero less none = absurd (cc (none))
-has_number (n ∷ numbers) (suc k) less none = has_number numbers k (omega arith) none
+pub no_less : (a b : ℕ) → false ≡ nat_lt a b → a < b → ⊥
+no_less a b is less = grind (arith, common_steps)
 
 pub same_legs : {A : Type 0} (f : A → MapBetween) (ls : List (ℕ × A)) → map (λ (l : Leg). l.0) (map (λ (l : ℕ × A). (l.0, f l.1)) ls) ≡ map (λ (l : ℕ × A). l.0) ls
 same_legs f [] = refl

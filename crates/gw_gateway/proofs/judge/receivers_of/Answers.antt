@@ -1,7 +1,19 @@
 use Rattle.std.proofs.Common.{◌≡◌, ◌<◌, ◌+◌, ℕ, length, sym, ◌∙◌, subst, ap, arith, map, take, List, [], ◌∷◌, ◌++◌, Some}
 use Rattle.std.specs.List.{slice_get}
-use Rattle.gw_gateway.proofs.Routing.{AreFirst, first_all, first_more, goes_by, take_one}
+use Rattle.std.specs.Option.{is_some}
+use Rattle.std.specs.Prelude.{nat_lt}
+use Rattle.gw_plan.specs.Held.{PlanHeld}
+use Rattle.gw_gateway.proofs.Routing.{AreFirst, first_all, first_more, goes_by, is_receiver, no_less, take_one}
 use Rattle.gw_gateway.proofs.judge.receivers_of.Goals as goal
+
+pub unreachable-requires : goal.unreachable-requires
+unreachable-requires g c =
+    let less : c.receiver.result < length c.args.conforming.now.plan.receivers =
+        is_receiver c.args.conforming.now c.route-route.result.now c.loop-leg.leg c.receiver.result c.receivers-receivers.ensures.within c.route-route.ensures.route c.receiver.ensures in
+    let long : length c.numbers-numbers.result.now ≡ length c.args.conforming.now.plan.receivers =
+        ap length c.numbers-numbers.ensures.numbers ∙ c.numbers-numbers.ensures.each ∙ sym (ap (λ (p : PlanHeld). length p.receivers) c.requires.plan) in
+    let none = subst (λ o. is_some o ≡ nat_lt c.receiver.result (length c.numbers-numbers.result.now)) c.in_default.is (c.get.ensures.lookup.0) in
+    no_less c.receiver.result (length c.numbers-numbers.result.now) none (omega (arith, less, long))
 
 pub loop-leg-preserved : goal.loop-leg-preserved
 loop-leg-preserved g c =
