@@ -1,7 +1,9 @@
 -- By the plan under which a message was admitted it goes to the receivers of its route.
-use Rattle.std.proofs.Common.{◌≡◌, ℕ, zero, suc, ◌+◌, ◌<◌, ◌≤◌, List, [], ◌∷◌, ◌++◌, length, map, take, drop, Option, None, Some, slice_get, refl, ap, sym, ◌∙◌, subst, arith, append_assoc, append-nil}
+use Rattle.std.proofs.Common.{◌≡◌, ℕ, zero, suc, ◌+◌, ◌<◌, ◌≤◌, List, [], ◌∷◌, ◌++◌, length, map, take, drop, Option, None, Some, slice_get, Bor, refl, ap, sym, ◌∙◌, subst, arith, append_assoc, append-nil}
 use Rattle.std.proofs.lemmas.Grind.{common_steps}
 use Rattle.std.proofs.lemmas.List.{length-map}
+use Rattle.std.proofs.lemmas.Option.{slice_get_read}
+use Rattle.std.specs.Slice.{IsItemAt}
 use Rattle.std.specs.Prelude.{Bool, true, false, ◌||◌, nat_eq, nat_lt, Ok, Result}
 use Rattle.std.specs.List.{AllZip, list_any}
 use Rattle.gw_due.specs.Due.{Name, names, plan}
@@ -56,6 +58,9 @@ pub first_all : {A : Type 0} (numbers : List ℕ) (legs : List (ℕ × A)) (k : 
 first_all {A} numbers legs k to all first =
     let long : k ≡ length (map (λ (l : ℕ × A). l.0) legs) = all ∙ sym (length-map legs (λ (l : ℕ × A). l.0)) in
     subst (λ ls. AreFirst numbers ls to) (ap (λ n. take n (map (λ (l : ℕ × A). l.0) legs)) long ∙ take_all_legs (map (λ (l : ℕ × A). l.0) legs)) first
+
+pub item_at : {X : Type 0} (xs : List X) (i : ℕ) (x : Bor X) → IsItemAt xs i (Some x) → slice_get xs i ≡ Some x.now
+item_at xs i x is = slice_get_read xs (length xs) i x.now refl is.3.0 is.1
 
 pub no_less : (a b : ℕ) → false ≡ nat_lt a b → a < b → ⊥
 no_less a b is less = grind (arith, common_steps)

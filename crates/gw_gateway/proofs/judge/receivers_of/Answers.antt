@@ -3,7 +3,7 @@ use Rattle.std.specs.List.{slice_get}
 use Rattle.std.specs.Option.{is_some}
 use Rattle.std.specs.Prelude.{nat_lt}
 use Rattle.gw_plan.specs.Held.{PlanHeld}
-use Rattle.gw_gateway.proofs.Routing.{AreFirst, first_all, first_more, goes_by, is_receiver, no_less, take_one}
+use Rattle.gw_gateway.proofs.Routing.{AreFirst, first_all, first_more, goes_by, is_receiver, item_at, no_less, take_one}
 use Rattle.gw_gateway.proofs.judge.receivers_of.Goals as goal
 
 pub unreachable-requires : goal.unreachable-requires
@@ -17,7 +17,8 @@ unreachable-requires g c =
 
 pub loop-leg-preserved : goal.loop-leg-preserved
 loop-leg-preserved g c =
-    let there : slice_get c.numbers-numbers.result.now c.receiver.result ≡ Some c.in-Some.number.now = ? in
+    let there : slice_get c.numbers-numbers.result.now c.receiver.result ≡ Some c.in-Some.number.now =
+        item_at c.numbers-numbers.result.now c.receiver.result c.in-Some.number c.in-Some.ensures.lookup in
     subst (λ ns. AreFirst c.numbers-numbers.result.now (take (c.loop-leg.leg + 1) (map (λ x. x.0) c.route-route.result.now.legs)) ns) (sym c.in_ok-push.ensures.items)
     (subst (λ ls. AreFirst c.numbers-numbers.result.now ls (c.loop-leg.to.items ++ c.in-Some.number.now ∷ []))
     (sym (take_one c.loop-leg.leg (map (λ x. x.0) c.route-route.result.now.legs) c.receiver.result c.receiver.ensures))

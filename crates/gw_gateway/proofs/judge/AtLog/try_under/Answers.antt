@@ -1,10 +1,8 @@
 use Rattle.std.proofs.Common.{◌≡◌, sym, ◌∙◌, subst, ap}
-use Rattle.std.specs.Arc.{arc_value}
 use mathlib.Core.List.{IsPrefix}
 use Rattle.gw_plan.specs.Admitted.{ConformingHeld}
 use Rattle.gw_ack.specs.declared.reply.Reply.TheVariants.{Accept}
-use Rattle.gw_gateway.specs.Waiting.{GoesOn}
-use Rattle.gw_gateway.specs.own.Steps.{IsTaken}
+use Rattle.gw_stream.proofs.Posting.{err_gives}
 use Rattle.gw_gateway.proofs.Arriving.{attempts_of, judged_so, on_err, settles_refused}
 use Rattle.gw_gateway.proofs.Joining.{goes_both}
 use Rattle.gw_gateway.proofs.judge.AtLog.try_under.Goals as goal
@@ -23,7 +21,7 @@ returns-in-Admitted-clause-err g c =
 
 pub returns-in_err-outcome-in-Refused-clause-err : goal.returns-in_err-outcome-in-Refused-clause-err
 returns-in_err-outcome-in-Refused-clause-err g c =
-    goes_both c.args.self.now.waiting c.see.new.self c.refuse.new.self.waiting c.see.ensures.on c.in_err-outcome-in-Refused.ensures.on
+    err_gives _ (goes_both c.args.self.now.waiting c.see.new.self c.refuse.new.self.waiting c.see.ensures.on c.in_err-outcome-in-Refused.ensures.on)
 
 pub returns-in_ok-outcome-in-Refused-clause-ok : goal.returns-in_ok-outcome-in-Refused-clause-ok
 returns-in_ok-outcome-in-Refused-clause-ok g c =
