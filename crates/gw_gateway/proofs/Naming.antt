@@ -1,6 +1,6 @@
 -- The numbers that a journal gives to the names of receivers.
-use Rattle.std.proofs.Common.{◌≡◌, ℕ, zero, suc, ◌+◌, ◌<◌, ◌≤◌, List, [], ◌∷◌, ◌++◌, length, map, take, drop, Option, None, Some, slice_get, get_or, refl, ap, sym, ◌∙◌, subst, arith, append_assoc}
-use Rattle.std.specs.List.{AllByRecursion, AllZip, Contains}
+use Rattle.std.proofs.Common.{◌≡◌, ℕ, zero, suc, ◌+◌, ◌<◌, List, [], ◌∷◌, ◌++◌, length, map, take, Some, slice_get, get_or, refl, ap, sym, ◌∙◌, subst, arith, append_assoc}
+use Rattle.std.specs.List.{Contains}
 use Rattle.std.proofs.lemmas.List.{map-append, take_more}
 use Rattle.std.proofs.lemmas.List.Elements.{Contains-append_left, Contains-append_right, Contains-push}
 use mathlib.Core.List.{IsPrefix}
@@ -11,16 +11,15 @@ use Rattle.gw_due.proofs.EventForms.{one_record}
 use Rattle.gw_journal.specs.declared.event.Event as happened
 use Rattle.gw_journal.specs.declared.event.Event.TheVariants.{Put}
 use Rattle.gw_journal.specs.Logs.{IsAt, TicketState, log_in}
-use Rattle.gw_journal.proofs.Logging.{get_front}
 use Rattle.gw_ledger.specs.Ledgers.{LedgerState, Spells, events_of}
 use Rattle.gw_ledger.specs.Finding.{InJournal}
 use Rattle.gw_ledger.specs.Putting.{IsPut, timed}
 use Rattle.gw_ledger.specs.Accepting.{LookState}
 use Rattle.gw_plan.specs.Held.{PlanHeld}
 use Rattle.gw_plan.specs.Shapes.{ReceiverValue}
-use Rattle.gw_gateway.specs.Plans.{AreNamed, AreNumbers, IsNamed, IsPlan, PlanState, Stands}
+use Rattle.gw_gateway.specs.Plans.{AreNamed, AreNumbers, IsNamed, IsPlan, PlanState}
 use Rattle.gw_gateway.specs.Routing.{IsNumber}
-use Rattle.gw_gateway.proofs.Joining.{begins_on, journal_later}
+use Rattle.gw_gateway.proofs.Joining.{journal_later}
 
 -- ---- names
 
@@ -140,7 +139,7 @@ looked_stands before old new time text plan numbers t look same put named each a
     let mine : IsPut before old new (timed time (Planned plan.text)) t = subst (λ x. IsPut before old new (timed time (Planned x)) t) same put in
     let there = put_stands before old new time plan numbers t mine named each in
     let moved : IsPlan before (record { place = look.place; history = new.desk.history; plan = plan; numbers = numbers }) =
-        subst (λ n. IsPlan before (record { place = n; history = new.desk.history; plan = plan; numbers = numbers })) (put_place before old new time look.place plan.text t mine at) there in
+    subst (λ n. IsPlan before (record { place = n; history = new.desk.history; plan = plan; numbers = numbers })) (put_place before old new time look.place plan.text t mine at) there in
     subst (λ h. IsPlan before (record { place = look.place; history = h; plan = plan; numbers = numbers })) (sym seen) moved
 
 -- the numbers of a plan stay those of its receivers

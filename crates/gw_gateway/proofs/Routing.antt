@@ -1,18 +1,16 @@
 -- By the plan under which a message was admitted it goes to the receivers of its route.
-use Rattle.std.proofs.Common.{◌≡◌, ℕ, zero, suc, ◌+◌, ◌<◌, ◌≤◌, List, [], ◌∷◌, ◌++◌, length, map, take, drop, Option, None, Some, slice_get, Bor, refl, ap, sym, ◌∙◌, subst, arith, append_assoc, append-nil}
+use Rattle.std.proofs.Common.{◌≡◌, ℕ, zero, suc, ◌+◌, ◌<◌, List, [], ◌∷◌, ◌++◌, length, map, take, Some, slice_get, Bor, refl, ap, sym, ◌∙◌, subst, arith}
 use Rattle.std.proofs.lemmas.Grind.{common_steps}
 use Rattle.std.proofs.lemmas.List.{length-map}
 use Rattle.std.proofs.lemmas.Option.{slice_get_read}
 use Rattle.std.specs.Slice.{IsItemAt}
-use Rattle.std.specs.Prelude.{Bool, true, false, ◌||◌, nat_eq, nat_lt, Ok, Result}
+use Rattle.std.specs.Prelude.{Bool, true, false, ◌||◌, nat_eq, nat_lt, Ok}
 use Rattle.std.specs.List.{AllZip, list_any}
 use Rattle.gw_due.specs.Due.{Name, names, plan}
-use Rattle.gw_due.specs.Events.{Event, Accepted, Planned}
+use Rattle.gw_due.specs.Events.{Event, Accepted}
 use Rattle.gw_due.specs.Lawful.{Lawful, MayFollow, no_event, one_more}
-use Rattle.gw_er7.specs.Message.{IsMessage, SegmentValue}
+use Rattle.gw_er7.specs.Message.{IsMessage}
 use Rattle.gw_er7.specs.Written.{written}
-use Rattle.gw_journal.specs.declared.event.Event as happened
-use Rattle.gw_journal.proofs.Logging.{get_front}
 use Rattle.gw_ledger.specs.Accepting.{IsRouted}
 use Rattle.gw_ledger.specs.Finding.{InJournal}
 use Rattle.gw_ledger.specs.Ledgers.{events_of}
@@ -25,7 +23,7 @@ use Rattle.gw_plan.specs.Within.{IsWithin}
 use Rattle.gw_plan.proofs.Reachable.{of_receiver}
 use Rattle.gw_profile.specs.Seen.{profile_value}
 use Rattle.gw_validate.specs.Conforming.{Conforms}
-use Rattle.gw_gateway.specs.Plans.{AreNumbers, GoesBy, IsPlan, PlanState, Stands}
+use Rattle.gw_gateway.specs.Plans.{AreNumbers, GoesBy, IsPlan, PlanState}
 use Rattle.gw_gateway.specs.Routing.{GoesTo, IsNumber, IsRoutedBy}
 use Rattle.gw_gateway.proofs.Naming.{numbers_later}
 

@@ -1,4 +1,4 @@
-use Rattle.std.proofs.Common.{◌≡◌, ◌+◌, ◌∙◌, ap, length, map, take, sym, subst}
+use Rattle.std.proofs.Common.{◌+◌, ◌∙◌, ap, length, map, take, sym, subst}
 use Rattle.gw_plan.specs.Seen.{receiver_value}
 use Rattle.gw_gateway.specs.Plans.{AreNamed}
 use Rattle.gw_gateway.proofs.Naming.{one_longer, receivers_more}

@@ -1,4 +1,4 @@
-use Rattle.std.proofs.Common.{◌≡◌, ◌∙◌, ap}
+use Rattle.std.proofs.Common.{◌∙◌, ap}
 use Rattle.std.specs.Arc.{arc_value}
 use Rattle.gw_plan.specs.Held.{PlanHeld}
 use Rattle.gw_gateway.proofs.Naming.{looked_stands}

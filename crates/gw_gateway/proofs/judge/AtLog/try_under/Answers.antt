@@ -1,4 +1,4 @@
-use Rattle.std.proofs.Common.{◌≡◌, sym, ◌∙◌, subst, ap}
+use Rattle.std.proofs.Common.{◌∙◌, subst, ap}
 use mathlib.Core.List.{IsPrefix}
 use Rattle.gw_plan.specs.Admitted.{ConformingHeld}
 use Rattle.gw_ack.specs.declared.reply.Reply.TheVariants.{Accept}
