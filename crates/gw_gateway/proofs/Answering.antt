@@ -1,13 +1,11 @@
 -- Answers that were secured are kept.
-use Rattle.std.proofs.Common.{◌≡◌, ℕ, zero, suc, ◌+◌, ◌<◌, ◌≤◌, List, [], ◌∷◌, ◌++◌, length, map, take, drop, Option, None, Some, slice_get, refl, ap, sym, ◌∙◌, subst, arith, append_assoc, append-nil}
-use Rattle.std.specs.Prelude.{IfSome, Result, Ok, Err}
+use Rattle.std.proofs.Common.{◌≡◌, ℕ, zero, suc, ◌+◌, ◌≤◌, List, [], ◌∷◌, ◌++◌, length, map, take, drop, Option, None, Some, refl, ap, sym, ◌∙◌, subst, arith, append_assoc}
+use Rattle.std.specs.Prelude.{IfSome, Result}
 use Rattle.std.specs.List.{AllByRecursion}
 use Rattle.std.proofs.lemmas.List.{map-append, take-append-drop}
 use mathlib.Core.List.{IsPrefix}
 use Rattle.gw_ack.specs.declared.reply.Reply.{Reply}
-use Rattle.gw_due.specs.Events.{Event}
 use Rattle.gw_journal.specs.declared.event.Event as happened
-use Rattle.gw_journal.specs.Logs.{IsStored, log_in}
 use Rattle.gw_journal.proofs.Logging.{get_front}
 use Rattle.gw_mllp.specs.Stream.{Tail}
 use Rattle.gw_stream.specs.declared.counts.Counts.{Counts}
@@ -20,8 +18,8 @@ use Rattle.gw_stream.specs.Streams.{Ends, HasFirst}
 use Rattle.gw_stream.specs.Streams as streams
 use Rattle.gw_gateway.specs.Senders.{Answers, AnswersAll, AnswersFirst, AreKept, HasRecord, IsJudged, IsKept, IsPlanned, IsSaid, Secures, Settles}
 use Rattle.gw_gateway.specs.Senders as senders
-use Rattle.gw_gateway.specs.Waiting.{AllStored, GoesOn, IsAwaited, WaitState}
-use Rattle.gw_gateway.proofs.Joining.{awaited_later, awaited_stored, goes_both, journal_later, same_begins, stays, stored_on}
+use Rattle.gw_gateway.specs.Waiting.{GoesOn, IsAwaited, WaitState}
+use Rattle.gw_gateway.proofs.Joining.{awaited_later, awaited_stored, goes_both, journal_later, stays, stored_on}
 
 -- ---- what is said stays said
 

@@ -1,24 +1,23 @@
 -- How a message comes to its outcome.
-use Rattle.std.proofs.Common.{◌≡◌, ◌⊎◌, inl, inr, ℕ, ◌+◌, ◌<◌, List, [], ◌∷◌, Option, None, Some, refl, ap, sym, ◌∙◌, subst, arith}
+use Rattle.std.proofs.Common.{◌≡◌, ◌⊎◌, inl, inr, ℕ, ◌<◌, List, Option, Some, refl, sym, ◌∙◌, subst}
 use Rattle.std.specs.Prelude.{◌≢◌, Result, Ok, Err, IfOk, OnErr}
 use mathlib.Core.List.{IsPrefix}
 use Rattle.gw_ack.specs.declared.reply.Reply.{Reply}
 use Rattle.gw_ack.specs.declared.reply.Reply.TheVariants.{Accept, Refuse, Reject}
-use Rattle.gw_due.specs.Events.{Event, Planned, Accepted}
+use Rattle.gw_due.specs.Events.{Accepted}
 use Rattle.gw_due.specs.Spelling as spelling
 use Rattle.gw_er7.specs.Written.{written}
 use Rattle.gw_journal.specs.declared.event.Event as happened
 use Rattle.gw_journal.specs.Logs.{IsAt, TicketState, log_in}
 use Rattle.gw_journal.proofs.Logging.{at_later, log_later}
-use Rattle.gw_ledger.specs.Finding.{InJournal}
 use Rattle.gw_ledger.specs.Putting.{timed}
-use Rattle.gw_plan.specs.Admitted.{BreaksSo, ConformingHeld, IsAdmitted, IsRefused}
+use Rattle.gw_plan.specs.Admitted.{BreaksSo, ConformingHeld, IsAdmitted}
 use Rattle.gw_plan.specs.Held.{PlanHeld, plan_value}
 use Rattle.gw_plan.specs.Routing.{routed}
 use Rattle.gw_plan.specs.Whole.{spelled}
 use Rattle.gw_stream.specs.declared.judge.Outcome.{Outcome}
 use Rattle.gw_stream.specs.Answers.{Message}
-use Rattle.gw_stream.specs.Served.{Routed, SaidBy}
+use Rattle.gw_stream.specs.Served.{SaidBy}
 use Rattle.gw_validate.specs.declared.breach.Breach.{Breach}
 use Rattle.gw_gateway.specs.Plans.{IsPlan, PlanState}
 use Rattle.gw_gateway.specs.Senders.{HasRecord, IsJudged, IsPlanned, IsSaid, Settles}
@@ -28,8 +27,8 @@ use Rattle.gw_gateway.specs.declared.judge.Attempt.{Attempt}
 use Rattle.gw_gateway.specs.declared.judge.Attempt.TheVariants as attempt
 use Rattle.gw_gateway.specs.own.Steps.{Arrives, Attempts, IsArrival, IsTaken, Says}
 use Rattle.gw_gateway.specs.own.Steps as steps
-use Rattle.gw_gateway.proofs.Answering.{judged_later, record_later, said_later}
-use Rattle.gw_gateway.proofs.Joining.{awaited_later, goes_both, journal_later, stays}
+use Rattle.gw_gateway.proofs.Answering.{judged_later}
+use Rattle.gw_gateway.proofs.Joining.{goes_both, stays}
 
 -- ---- what a plan says
 
@@ -113,6 +112,25 @@ settles_unsettled before s t what number reply on same =
 pub settles_from : (before : List (List ℕ)) (s mid t : WaitState) (what : Option Message) (number : ℕ) (reply : Reply) → GoesOn s mid → Settles before mid t what number reply
     → Settles before s t what number reply
 settles_from before s mid t what number reply first settles = record { on = goes_both s mid t first settles.on; said = settles.said }
+
+pub arrived_so : (before : List (List ℕ)) (s mid w t : WaitState) (m : Message) (n number time : ℕ) (reply : Reply) (to bytes : List ℕ) (ticket : TicketState)
+    → mid ≡ s → GoesOn mid w → t ≡ w → IsPrefix ticket.history w.history → ticket.place < w.upto → bytes ≡ written m
+    → IsAt ticket.place (spelling.spelled (timed time (Accepted n to bytes))) (log_in before ticket.history) → number ≡ n → reply ≡ Accept
+    → GoesOn s t × IsArrival before s t m number reply
+arrived_so before s mid w t m n number time reply to bytes ticket first on last seen below spells there same says =
+    let goes : GoesOn s w = subst (λ x. GoesOn x w) first on in
+    let mine : IsAt ticket.place (spelling.spelled (timed time (Accepted n to (written m)))) (log_in before ticket.history) =
+    subst (λ b. IsAt ticket.place (spelling.spelled (timed time (Accepted n to b))) (log_in before ticket.history)) spells there in
+    let arrival : IsArrival before s w m n Accept = steps.accepted n (record_put before w m n time to ticket mine seen below) in (
+      subst (λ x. GoesOn s x) (sym last) goes,
+      subst (λ x. IsArrival before s x m number reply) (sym last)
+          (subst (λ k. IsArrival before s w m k reply) (sym same) (subst (λ r. IsArrival before s w m n r) (sym says) arrival)),
+    )
+
+pub unsettled_so : (before : List (List ℕ)) (s mid t : WaitState) (m : Message) (number : ℕ) (reply : Reply) → mid ≡ s → t ≡ mid → reply ≡ Reject 207
+    → GoesOn s t × IsArrival before s t m number reply
+unsettled_so before s mid t m number reply first last says =
+    (subst (λ x. GoesOn s x) (sym (last ∙ first)) (stays s), subst (λ r. IsArrival before s t m number r) (sym says) (steps.unsettled number))
 
 -- ---- by results
 

@@ -1,11 +1,11 @@
 -- What was seen of a journal stays so as it goes on.
-use Rattle.std.proofs.Common.{◌≡◌, Bool, false, true, ℕ, ◌+◌, ◌<◌, ◌≤◌, List, [], ◌∷◌, ◌++◌, length, Option, None, Some, slice_get, refl, ap, sym, ◌∙◌, subst, arith, append_assoc, append-nil}
+use Rattle.std.proofs.Common.{◌≡◌, Bool, ℕ, ◌+◌, List, [], ◌++◌, Option, Some, refl, ap, sym, ◌∙◌, subst, arith, append_assoc, append-nil}
 use Rattle.std.proofs.lemmas.List.{map-append}
 use mathlib.Core.List.{IsPrefix}
 use Rattle.gw_due.specs.Events.{Event}
 use Rattle.gw_due.specs.Spelling.{Entry}
 use Rattle.gw_journal.specs.declared.event.Event as happened
-use Rattle.gw_journal.specs.Logs.{Confirms, IsAt, IsStored, TicketState, log_in}
+use Rattle.gw_journal.specs.Logs.{Confirms, IsStored, TicketState, log_in}
 use Rattle.gw_journal.proofs.Logging.{log_later, at_later, stored_later}
 use Rattle.gw_ledger.specs.Ledgers.{Spells, events_of}
 use Rattle.gw_ledger.specs.Finding.{InJournal}

@@ -1,6 +1,7 @@
 -- The numbers that a journal gives to the names of receivers.
-use Rattle.std.proofs.Common.{◌≡◌, ℕ, zero, suc, ◌+◌, ◌<◌, ◌≤◌, List, [], ◌∷◌, ◌++◌, length, map, take, drop, Option, None, Some, slice_get, refl, ap, sym, ◌∙◌, subst, arith, append_assoc, append-nil}
-use Rattle.std.specs.List.{AllByRecursion, AllZip, Contains}
+use Rattle.std.proofs.Common.{◌≡◌, ℕ, zero, suc, ◌+◌, ◌<◌, List, [], ◌∷◌, ◌++◌, length, map, take, Some, slice_get, get_or, refl, ap, sym, ◌∙◌, subst, arith, append_assoc}
+use Rattle.std.specs.List.{Contains}
+use Rattle.std.proofs.lemmas.List.{map-append, take_more}
 use Rattle.std.proofs.lemmas.List.Elements.{Contains-append_left, Contains-append_right, Contains-push}
 use mathlib.Core.List.{IsPrefix}
 use Rattle.gw_due.specs.Due.{Name, names, names_by}
@@ -10,15 +11,15 @@ use Rattle.gw_due.proofs.EventForms.{one_record}
 use Rattle.gw_journal.specs.declared.event.Event as happened
 use Rattle.gw_journal.specs.declared.event.Event.TheVariants.{Put}
 use Rattle.gw_journal.specs.Logs.{IsAt, TicketState, log_in}
-use Rattle.gw_journal.proofs.Logging.{get_front}
 use Rattle.gw_ledger.specs.Ledgers.{LedgerState, Spells, events_of}
 use Rattle.gw_ledger.specs.Finding.{InJournal}
 use Rattle.gw_ledger.specs.Putting.{IsPut, timed}
+use Rattle.gw_ledger.specs.Accepting.{LookState}
 use Rattle.gw_plan.specs.Held.{PlanHeld}
 use Rattle.gw_plan.specs.Shapes.{ReceiverValue}
-use Rattle.gw_gateway.specs.Plans.{AreNamed, AreNumbers, IsNamed, IsPlan, PlanState, Stands}
+use Rattle.gw_gateway.specs.Plans.{AreNamed, AreNumbers, IsNamed, IsPlan, PlanState}
 use Rattle.gw_gateway.specs.Routing.{IsNumber}
-use Rattle.gw_gateway.proofs.Joining.{begins_on, journal_later}
+use Rattle.gw_gateway.proofs.Joining.{journal_later}
 
 -- ---- names
 
@@ -113,3 +114,38 @@ put_stands before old new time plan numbers t put named each = record {
   };
   each = each;
 }
+
+-- one more of the receivers has its number
+pub receivers_more : {X : Type 0} (value : X → ReceiverValue) (before : List (List ℕ)) (xs : List X) (i : ℕ) (x : X) (numbers : List ℕ) (n : ℕ) (old new : List happened.Event)
+    → i < length xs → x ≡ get_or xs i x → IsPrefix old new → AreNamed before (map value (take i xs)) numbers old → IsNamed before (value x) n new
+    → AreNamed before (map value (take (i + 1) xs)) (numbers ++ n ∷ []) new
+receivers_more value before xs i x numbers n old new less is p all one =
+    let cut : take (i + 1) xs ≡ take i xs ++ x ∷ [] = take_more xs i x less ∙ ap (λ y. take i xs ++ y ∷ []) (sym is) in
+    let whole : map value (take (i + 1) xs) ≡ map value (take i xs) ++ value x ∷ [] = ap (map value) cut ∙ map-append value (take i xs) (x ∷ []) in
+    subst (λ rs. AreNamed before rs (numbers ++ n ∷ []) new) (sym whole)
+    (one_named_more before (map value (take i xs)) numbers (value x) n old new p all one)
+
+pub one_longer : (xs : List ℕ) (x k : ℕ) → length xs ≡ k → length (xs ++ x ∷ []) ≡ k + 1
+one_longer [] x k is = omega (arith, is)
+one_longer (y ∷ xs) x zero is = absurd (omega (arith, is))
+one_longer (y ∷ xs) x (suc k) is = let e = one_longer xs x k (omega (arith, is)) in omega (arith, e)
+
+-- the plan that was put and looked up then
+pub looked_stands : {S : Type 0} (before : List (List ℕ)) (old new : LedgerState S) (time : ℕ) (text : List ℕ) (plan : PlanHeld) (numbers : List ℕ) (t : TicketState) (look : LookState)
+    → text ≡ plan.text → IsPut before old new (timed time (Planned text)) t → AreNamed before plan.receivers numbers old.desk.history → length numbers ≡ length plan.receivers
+    → new.state.plan ≡ Some look.place → look.history ≡ new.desk.history
+    → IsPlan before (record { place = look.place; history = look.history; plan = plan; numbers = numbers })
+looked_stands before old new time text plan numbers t look same put named each at seen =
+    let mine : IsPut before old new (timed time (Planned plan.text)) t = subst (λ x. IsPut before old new (timed time (Planned x)) t) same put in
+    let there = put_stands before old new time plan numbers t mine named each in
+    let moved : IsPlan before (record { place = look.place; history = new.desk.history; plan = plan; numbers = numbers }) =
+    subst (λ n. IsPlan before (record { place = n; history = new.desk.history; plan = plan; numbers = numbers })) (put_place before old new time look.place plan.text t mine at) there in
+    subst (λ h. IsPlan before (record { place = look.place; history = h; plan = plan; numbers = numbers })) (sym seen) moved
+
+-- the numbers of a plan stay those of its receivers
+pub repeated : (before : List (List ℕ)) (p : PlanState) (plan : PlanHeld) (numbers : List ℕ) (history : List happened.Event) → IsPlan before p → plan ≡ p.plan → numbers ≡ p.numbers
+    → IsPrefix p.history history → AreNamed before plan.receivers numbers history
+repeated before p plan numbers history is same each on =
+    subst (λ (q : PlanHeld). AreNamed before q.receivers numbers history) (sym same)
+    (subst (λ ns. AreNamed before p.plan.receivers ns history) (sym each)
+    (all_named_later before p.plan.receivers p.numbers p.history history on (λ faithful entries spells. (is.stands faithful entries spells).named)))

@@ -1,15 +1,16 @@
 -- By the plan under which a message was admitted it goes to the receivers of its route.
-use Rattle.std.proofs.Common.{◌≡◌, ℕ, zero, suc, ◌+◌, ◌<◌, ◌≤◌, List, [], ◌∷◌, ◌++◌, length, map, take, drop, Option, None, Some, slice_get, refl, ap, sym, ◌∙◌, subst, arith, append_assoc, append-nil}
+use Rattle.std.proofs.Common.{◌≡◌, ℕ, zero, suc, ◌+◌, ◌<◌, List, [], ◌∷◌, ◌++◌, length, map, take, Some, slice_get, Bor, refl, ap, sym, ◌∙◌, subst, arith}
 use Rattle.std.proofs.lemmas.Grind.{common_steps}
-use Rattle.std.specs.Prelude.{Bool, true, false, ◌||◌, nat_eq, Ok, Result}
+use Rattle.std.proofs.lemmas.List.{length-map}
+use Rattle.std.proofs.lemmas.Option.{slice_get_read}
+use Rattle.std.specs.Slice.{IsItemAt}
+use Rattle.std.specs.Prelude.{Bool, true, false, ◌||◌, nat_eq, nat_lt, Ok}
 use Rattle.std.specs.List.{AllZip, list_any}
 use Rattle.gw_due.specs.Due.{Name, names, plan}
-use Rattle.gw_due.specs.Events.{Event, Accepted, Planned}
+use Rattle.gw_due.specs.Events.{Event, Accepted}
 use Rattle.gw_due.specs.Lawful.{Lawful, MayFollow, no_event, one_more}
-use Rattle.gw_er7.specs.Message.{IsMessage, SegmentValue}
+use Rattle.gw_er7.specs.Message.{IsMessage}
 use Rattle.gw_er7.specs.Written.{written}
-use Rattle.gw_journal.specs.declared.event.Event as happened
-use Rattle.gw_journal.proofs.Logging.{get_front}
 use Rattle.gw_ledger.specs.Accepting.{IsRouted}
 use Rattle.gw_ledger.specs.Finding.{InJournal}
 use Rattle.gw_ledger.specs.Ledgers.{events_of}
@@ -22,7 +23,7 @@ use Rattle.gw_plan.specs.Within.{IsWithin}
 use Rattle.gw_plan.proofs.Reachable.{of_receiver}
 use Rattle.gw_profile.specs.Seen.{profile_value}
 use Rattle.gw_validate.specs.Conforming.{Conforms}
-use Rattle.gw_gateway.specs.Plans.{AreNumbers, GoesBy, IsPlan, PlanState, Stands}
+use Rattle.gw_gateway.specs.Plans.{AreNumbers, GoesBy, IsPlan, PlanState}
 use Rattle.gw_gateway.specs.Routing.{GoesTo, IsNumber, IsRoutedBy}
 use Rattle.gw_gateway.proofs.Naming.{numbers_later}
 
@@ -49,6 +50,18 @@ take_one {A} (suc k) (y ∷ xs) x there =
 pub take_all_legs : {A : Type 0} (xs : List A) → take (length xs) xs ≡ xs
 take_all_legs [] = refl
 take_all_legs (x ∷ xs) = ap (λ l. x ∷ l) (take_all_legs xs)
+
+pub first_all : {A : Type 0} (numbers : List ℕ) (legs : List (ℕ × A)) (k : ℕ) (to : List ℕ) → k ≡ length legs → AreFirst numbers (take k (map (λ (l : ℕ × A). l.0) legs)) to
+    → AreFirst numbers (map (λ (l : ℕ × A). l.0) legs) to
+first_all {A} numbers legs k to all first =
+    let long : k ≡ length (map (λ (l : ℕ × A). l.0) legs) = all ∙ sym (length-map legs (λ (l : ℕ × A). l.0)) in
+    subst (λ ls. AreFirst numbers ls to) (ap (λ n. take n (map (λ (l : ℕ × A). l.0) legs)) long ∙ take_all_legs (map (λ (l : ℕ × A). l.0) legs)) first
+
+pub item_at : {X : Type 0} (xs : List X) (i : ℕ) (x : Bor X) → IsItemAt xs i (Some x) → slice_get xs i ≡ Some x.now
+item_at xs i x is = slice_get_read xs (length xs) i x.now refl is.3.0 is.1
+
+pub no_less : (a b : ℕ) → false ≡ nat_lt a b → a < b → ⊥
+no_less a b is less = grind (arith, common_steps)
 
 pub same_legs : {A : Type 0} (f : A → MapBetween) (ls : List (ℕ × A)) → map (λ (l : Leg). l.0) (map (λ (l : ℕ × A). (l.0, f l.1)) ls) ≡ map (λ (l : ℕ × A). l.0) ls
 same_legs f [] = refl

@@ -1,10 +1,9 @@
 -- What is answered to a sender, and what of it is on the disk.
-use Rattle.std.specs.Prelude.{◌≡◌, ◌≢◌, ⊤, ℕ, ◌+◌, ◌<◌, ◌≤◌, Bool, false, true, List, [], ◌∷◌, ◌++◌, length, map, slice_get, Option, None, Some, IfSome, Result, Ok}
+use Rattle.std.specs.Prelude.{◌≡◌, ◌≢◌, ℕ, List, ◌++◌, map, slice_get, Option, Some, IfSome, Result, Ok}
 use Rattle.std.specs.Io.KnownBytes.{Appends}
 use Rattle.std.specs.List.{AllByRecursion}
-use mathlib.Core.List.{IsPrefix}
 use Rattle.gw_ack.specs.declared.reply.Reply.{Reply}
-use Rattle.gw_ack.specs.declared.reply.Reply.TheVariants.{Accept, Refuse, Reject}
+use Rattle.gw_ack.specs.declared.reply.Reply.TheVariants.{Accept, Reject}
 use Rattle.gw_er7.specs.Written.{written}
 use Rattle.gw_due.specs.Events.{Event, Planned, Accepted}
 use Rattle.gw_due.specs.Spelling as spelling
@@ -17,7 +16,6 @@ use Rattle.gw_plan.specs.Shapes.{PlanValue}
 use Rattle.gw_plan.specs.Whole.{spelled}
 use Rattle.gw_stream.specs.declared.counts.Counts.{Counts}
 use Rattle.gw_stream.specs.declared.fault.RunFault.{RunFault}
-use Rattle.gw_stream.specs.declared.judge.Outcome.{Outcome}
 use Rattle.gw_stream.specs.Answers.{IsSettled, Message}
 use Rattle.gw_stream.specs.Counted.{nothing}
 use Rattle.gw_stream.specs.Exchanges.{Exchange, blocks_of, content_of, with_answers}

@@ -101,7 +101,10 @@ fn receivers_of<J: Naming>(
     let route = conforming.route();
     let mut to = Vec::new(alloc);
     for leg in 0..route.len() {
-        to.push(numbers[route.receiver(leg)])?;
+        let Some(number) = numbers.get(route.receiver(leg)) else {
+            unreachable!();
+        };
+        to.push(*number)?;
     }
     Ok(to)
 }

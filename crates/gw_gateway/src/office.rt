@@ -127,14 +127,11 @@ fn put_plan<J: Naming, S: Storage + Drop>(
     ensures place { IfOk result (λ x. x.1.place ≡ x.0.place) }
     ensures err { OnErr result ((ledger.new ≡ ledger.old) ⊎ HasGrown ledger.old.desk ledger.new.desk) }
 {
-    let ticket = match ledger.plan(time, plan.text()) {
-        Ok(ticket) => ticket,
-        Err(fault) => return Err(PutFault::from(fault)),
+    let ticket = ledger.plan(time, plan.text())?;
+    let Some(look) = ledger.look() else {
+        unreachable!();
     };
-    match ledger.look() {
-        Some(look) => Ok((InForce::new(look, plan, numbers), ticket)),
-        None => unreachable!(),
-    }
+    Ok((InForce::new(look, plan, numbers), ticket))
 }
 
 // Names the receivers of a plan, and puts it: from here on it is in force.

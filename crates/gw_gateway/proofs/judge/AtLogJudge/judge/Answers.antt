@@ -1,4 +1,3 @@
-use Rattle.std.proofs.Common.{refl}
 use Rattle.gw_gateway.proofs.Arriving.{settles_unsettled, stays_so, unsettled_of}
 use Rattle.gw_gateway.proofs.Joining.{stays}
 use Rattle.gw_gateway.proofs.judge.AtLogJudge.judge.Goals as goal

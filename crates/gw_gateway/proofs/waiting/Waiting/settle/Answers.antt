@@ -1,6 +1,6 @@
 use Rattle.std.proofs.Common.{◌≡◌, ◌+◌, sym, ◌∙◌, subst}
 use mathlib.Core.List.{IsPrefix}
-use Rattle.gw_gateway.specs.Waiting.{AllStored, WaitState, waiting}
+use Rattle.gw_gateway.specs.Waiting.{AllStored, WaitState}
 use Rattle.gw_gateway.proofs.Joining.{settled_so}
 use Rattle.gw_gateway.proofs.waiting.Waiting.settle.Goals as goal
 
