@@ -20,10 +20,9 @@ pub struct Past<V: Calls + Drop> {
 
 /// Whether what is due to a receiver at this place is left for it.
 fn is_left(state: &State, receiver: u32, place: u64) -> bool {
-    state
-        .receivers()
-        .iter()
-        .any(|one| one.number() == receiver && one.left() > 0 && one.from() <= place)
+    state.receivers().iter().any(|one| one.number() == receiver
+        && one.left() > 0
+        && one.from() <= place)
 }
 
 /// The same of any of these receivers.
@@ -34,6 +33,14 @@ fn is_left_to(state: &State, receivers: &[u32], place: u64) -> bool {
         }
     }
     false
+}
+
+/// Whether a message that is accepted at this place is left for one of its receivers.
+fn is_accepted_for(state: &State, place: u64, event: &Event<'_>) -> bool {
+    match event {
+        Event::Accepted { to, .. } => is_left_to(state, to, place),
+        _ => false,
+    }
 }
 
 /// The place at which what is left for receivers begins. None: nothing is left.
@@ -97,19 +104,14 @@ impl<V: Calls + Drop> Past<V> {
         at: u64,
         event: &Event<'_>,
     ) -> Result<(), PageFault> {
-        match event {
-            Event::Accepted { to, .. } => {
-                if is_left_to(state, to, at) {
-                    return self.look_at_plan(plan);
-                }
-            }
-            Event::Again { receiver, place } => {
-                if is_left(state, *receiver, at) {
-                    let _message = self.others.find(self.tail, *place)?;
-                    return self.look_at_plan(self.others.plan());
-                }
-            }
-            _ => {}
+        if is_accepted_for(state, at, event) {
+            return self.look_at_plan(plan);
+        }
+        if let Event::Again { receiver, place } = event
+            && is_left(state, *receiver, at)
+        {
+            let _message = self.others.find(self.tail, *place)?;
+            return self.look_at_plan(self.others.plan());
         }
         Ok(())
     }

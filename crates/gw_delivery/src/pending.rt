@@ -107,7 +107,10 @@ struct Standing {
 }
 
 // How the receiver of this number stands, if it has a name.
-fn standing_of<J: Naming, S: Storage + Drop>(office: &Office<J, S>, number: u32) -> Option<Standing> {
+fn standing_of<J: Naming, S: Storage + Drop>(
+    office: &Office<J, S>,
+    number: u32,
+) -> Option<Standing> {
     let (segment, end) = office.ledger.tail();
     for receiver in office.ledger.state().receivers() {
         if receiver.number() == number {
