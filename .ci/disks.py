@@ -301,7 +301,7 @@ def fails_at(gateway, library, number, most=12):
     same(f"sync {number} of the log fails: its status, and whether it failed", (3, True), (gateway.process.returncode, failed.exists()))
     if gateway.found(LISTENS):
         same(f"sync {number} failed: its last line", ["fault 3"], gateway.lines[-1:])
-        gateway.wait("folder: the log can't be written any more")
+        gateway.wait("folder: the log can't be written any more: .*")
     elif not gateway.found("fault [23]"):
         raise Differs(f"sync {number} failed, and that isn't what the lines say: {gateway.lines}")
     gateway.start()

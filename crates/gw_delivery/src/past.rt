@@ -35,14 +35,6 @@ fn is_left_to(state: &State, receivers: &[u32], place: u64) -> bool {
     false
 }
 
-/// Whether a message that is accepted at this place is left for one of its receivers.
-fn is_accepted_for(state: &State, place: u64, event: &Event<'_>) -> bool {
-    match event {
-        Event::Accepted { to, .. } => is_left_to(state, to, place),
-        _ => false,
-    }
-}
-
 /// The place at which what is left for receivers begins. None: nothing is left.
 pub fn left_from(state: &State) -> Option<u64> {
     let mut first: Option<u64> = None;
@@ -102,16 +94,22 @@ impl<V: Calls + Drop> Past<V> {
         state: &State,
         plan: Option<u64>,
         at: u64,
-        event: &Event<'_>,
+        event: Event<'_>,
     ) -> Result<(), PageFault> {
-        if is_accepted_for(state, at, event) {
-            return self.look_at_plan(plan);
-        }
-        if let Event::Again { receiver, place } = event
-            && is_left(state, *receiver, at)
-        {
-            let _message = self.others.find(self.tail, *place)?;
-            return self.look_at_plan(self.others.plan());
+        match event {
+            Event::Accepted { to, .. } => {
+                if is_left_to(state, &to, at) {
+                    return self.look_at_plan(plan);
+                }
+            }
+            Event::Again { receiver, place } => {
+                if is_left(state, receiver, at) {
+                    let _message = self.others.find(self.tail, place)?;
+                    let plan = self.others.plan();
+                    return self.look_at_plan(plan);
+                }
+            }
+            _ => {}
         }
         Ok(())
     }
@@ -132,7 +130,7 @@ impl<V: Calls + Drop> Past<V> {
                     if let Event::Planned { .. } = entry.event {
                         plan = Some(page.place);
                     }
-                    self.look_at(state, plan, page.place, &entry.event)?;
+                    self.look_at(state, plan, page.place, entry.event)?;
                 }
                 Err(ReadFault::Memory) => return Err(PageFault::Memory),
                 Err(ReadFault::Unreadable) => return Err(PageFault::Message { place: page.place }),

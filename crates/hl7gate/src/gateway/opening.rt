@@ -42,10 +42,10 @@ fn unopened<'a>(alloc: Global, path: &'a str, fault: OpenFault) -> Ended<'a> {
 
 /// What a fault of a log is to who asked.
 fn damaged<'a>(alloc: Global, path: &str, fault: LogFault) -> Ended<'a> {
-    match fault {
-        LogFault::Memory => Ended::Run(RunFault::Memory),
-        fault => unlisted(alloc, path, fault),
+    if fault == LogFault::Memory {
+        return Ended::Run(RunFault::Memory);
     }
+    unlisted(alloc, path, fault)
 }
 
 /// A number for a new log.
@@ -111,20 +111,25 @@ pub(crate) fn open<'r, 'a, K: Summary, R: Runtime>(
     open_over(rt, path, Recorded::<_, Brand>::new(folder))
 }
 
-/// Why what is left can't be sent.
-fn unsent<'a>(alloc: Global, path: &str, fault: PageFault) -> Ended<'a> {
-    let PageFault::Plan { place } = fault else {
-        return match fault {
-            PageFault::Memory => Ended::Run(RunFault::Memory),
-            fault => unlisted(alloc, path, fault),
-        };
-    };
+/// Why what is left can't be sent: the plan at this place is none to this program.
+fn unreadable<'a>(alloc: Global, path: &str, place: u64) -> Ended<'a> {
     match format!(in alloc;
         "{path}: this hl7gate refuses the plan at place {place} of the log, under which messages wait\n{path}: start the hl7gate that took it, and let it deliver first"
     ) {
         Ok(said) => Ended::Unlisted { said },
         Err(_) => Ended::Run(RunFault::Memory),
     }
+}
+
+/// Why what is left can't be sent.
+fn unsent<'a>(alloc: Global, path: &str, fault: PageFault) -> Ended<'a> {
+    if fault == PageFault::Memory {
+        return Ended::Run(RunFault::Memory);
+    }
+    if let PageFault::Plan { place } = fault {
+        return unreadable(alloc, path, place);
+    }
+    unlisted(alloc, path, fault)
 }
 
 /// The text of the plan in force by the log, where it has one. All that is left was looked at: it is under plans that this program takes.
