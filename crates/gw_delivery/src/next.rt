@@ -84,6 +84,13 @@ impl<'a, J: Naming> Next<'a, J> {
         &self.found
     }
 
+    /// The name of its receiver.
+    pub(crate) fn name(&self) -> &'a [u8]
+        ensures { result.now ≡ self.now.name }
+    {
+        self.name
+    }
+
     /// What was seen of the journal.
     pub(crate) fn front(&self) -> &Front<J>
         ensures history { result.now ≡ self.now.history }
