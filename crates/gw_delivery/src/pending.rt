@@ -199,10 +199,13 @@ impl<'a, J: Naming, S: Storage + Drop, V: Calls + Drop, R: Wait, L: Line, T: Tim
         };
         // (called for its clause: it is the next)
         let _front = next.front();
-        if next.found().receiver() != self.receiver || next.name() != self.name {
+        if next.found().receiver() != self.receiver {
             return Err(OutboxFault::Disk);
         }
-        Ok(Some(next.bytes(self.finder.alloc)?))
+        if next.name() == self.name {
+            return Ok(Some(next.bytes(self.finder.alloc)?));
+        }
+        Err(OutboxFault::Disk)
     }
 
     // Reads on to what is next. False: it doesn't count yet.
