@@ -80,6 +80,7 @@ impl<'a, J: Naming> Next<'a, J> {
     pub(crate) fn found(&self) -> &Found<J>
         ensures receiver { result.now.receiver ≡ self.now.receiver }
         ensures place { result.now.place ≡ self.now.place }
+        ensures from { result.now.from ≡ self.now.from }
     {
         &self.found
     }

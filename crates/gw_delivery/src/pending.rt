@@ -1,8 +1,8 @@
 //! What waits for a receiver, as its forwarder takes it.
-ghost use Rattle.std.specs.Prelude.{◌≡◌, ◌+◌, IfOk, IfSome, IsNone, IsTrue, IsFalse, OnOk, OnErr};
+ghost use Rattle.std.specs.Prelude.{◌≡◌, ◌≤◌, ◌+◌, IfOk, IfSome, IsNone, IsTrue, IsFalse, OnOk, OnErr, Some};
 ghost use Rattle.gw_due.specs.Views as view;
 ghost use Rattle.gw_delivery.specs.Waiting as spec;
-ghost use Rattle.gw_delivery.specs.Waiting.{Gives, IsPassed, Passes};
+ghost use Rattle.gw_delivery.specs.Waiting.{IsGiven, IsPassed, Passes, Stays};
 
 use crate::fault::PageFault;
 use crate::finder::Finder;
@@ -116,6 +116,16 @@ fn passed<J: Naming, S: Storage + Drop, R: Wait>(
     }
 }
 
+// Whether the place isn't before the other, where there is one.
+fn is_behind(place: u64, other: Option<u64>) -> bool
+    ensures { IsTrue result → IfSome other (λ from. from ≤ place) }
+{
+    match other {
+        Some(from) => from <= place,
+        None => true,
+    }
+}
+
 // How a receiver passes what it acknowledged so.
 fn how(ack: Ack) -> How<'static>
     ensures { view.how result ≡ spec.how ack }
@@ -176,14 +186,14 @@ impl<'a, J: Naming, S: Storage + Drop, V: Calls + Drop, R: Wait, L: Line, T: Tim
 
     // Keeps what was found, where it is this receiver's, from where what is left for it begins.
     fn keep(&mut self, next: Next<'a, J>) -> bool
-        ensures { self.new.count ≡ self.old.count }
+        ensures count { self.new.count ≡ self.old.count }
+        ensures stays { Stays (record { receiver = self.old.receiver; name = self.old.name.now; from = self.old.from; next = self.old.next })
+            (record { receiver = self.new.receiver; name = self.new.name.now; from = self.new.from; next = self.new.next }) }
     {
         if next.found().receiver() != self.receiver {
             return false;
         }
-        if let Some(from) = self.from
-            && from > next.found().from()
-        {
+        if !is_behind(next.found().from(), self.from) {
             return false;
         }
         self.next = Some(next);
@@ -192,7 +202,8 @@ impl<'a, J: Naming, S: Storage + Drop, V: Calls + Drop, R: Wait, L: Line, T: Tim
 
     // What the receiver is sent of what is next. (That it is this receiver's is tested once more, since its type says nothing of it.)
     fn given(&self) -> Result<Option<Vec<u8>>, OutboxFault>
-        ensures { IfOk result (λ found. IfSome found (λ bytes. Gives J.before self.now.receiver self.now.name.now self.now.next bytes.items)) }
+        ensures { IfOk result (λ found. IfSome found (λ bytes. IsGiven J.before
+            (record { receiver = self.now.receiver; name = self.now.name.now; from = self.now.from; next = self.now.next }) bytes.items)) }
     {
         let Some(next) = &self.next else {
             return Err(OutboxFault::Record);
@@ -200,6 +211,9 @@ impl<'a, J: Naming, S: Storage + Drop, V: Calls + Drop, R: Wait, L: Line, T: Tim
         // (called for its clause: it is the next)
         let _front = next.front();
         if next.found().receiver() != self.receiver {
+            return Err(OutboxFault::Disk);
+        }
+        if !is_behind(next.found().from(), self.from) {
             return Err(OutboxFault::Disk);
         }
         if next.name() == self.name {
@@ -210,7 +224,9 @@ impl<'a, J: Naming, S: Storage + Drop, V: Calls + Drop, R: Wait, L: Line, T: Tim
 
     // Reads on to what is next. False: it doesn't count yet.
     fn read_on(&mut self, tail: Tail) -> Result<bool, OutboxFault>
-        ensures { self.new.count ≡ self.old.count }
+        ensures count { self.new.count ≡ self.old.count }
+        ensures stays { Stays (record { receiver = self.old.receiver; name = self.old.name.now; from = self.old.from; next = self.old.next })
+            (record { receiver = self.new.receiver; name = self.new.name.now; from = self.new.from; next = self.new.next }) }
     {
         match self.finder.find(tail, self.receiver, self.name) {
             Ok(Some(next)) => {
@@ -232,7 +248,9 @@ impl<'a, J: Naming, S: Storage + Drop, V: Calls + Drop, R: Wait, L: Line, T: Tim
 
     // Whether what is next is known.
     fn is_ready(&mut self) -> Result<bool, OutboxFault>
-        ensures { self.new.count ≡ self.old.count }
+        ensures count { self.new.count ≡ self.old.count }
+        ensures stays { Stays (record { receiver = self.old.receiver; name = self.old.name.now; from = self.old.from; next = self.old.next })
+            (record { receiver = self.new.receiver; name = self.new.name.now; from = self.new.from; next = self.new.next }) }
     {
         if self.next.is_some() {
             return Ok(true);
@@ -253,6 +271,9 @@ impl<'a, J: Naming, S: Storage + Drop, V: Calls + Drop, R: Wait, L: Line, T: Tim
     // Goes on behind this place, which was passed. False: no more can be counted.
     fn go_on(&mut self, place: u64) -> bool
         ensures gone { IsTrue result → IsNone self.new.next }
+        ensures from { IsTrue result → self.new.from ≡ Some (place + 1) }
+        ensures receiver { self.new.receiver ≡ self.old.receiver }
+        ensures name { self.new.name ≡ self.old.name }
         ensures counted { IsTrue result → self.new.count ≡ self.old.count + 1 }
         ensures uncounted { IsFalse result → self.new.count ≡ self.old.count }
     {
@@ -277,8 +298,8 @@ impl<'a, J: Naming, S: Storage + Drop, V: Calls + Drop, R: Wait, L: Line, T: Tim
 
     // The receiver passes what is next. Its place.
     fn pass(&mut self, how: How<'_>) -> Result<u64, OutboxFault>
-        ensures passes { OnOk result (Passes J.before self.old.next (view.how how.entry)) }
-        ensures gone { OnOk result (IsNone self.new.next) }
+        ensures passes { OnOk result (Passes J.before (record { receiver = self.old.receiver; name = self.old.name.now; from = self.old.from; next = self.old.next })
+            (record { receiver = self.new.receiver; name = self.new.name.now; from = self.new.from; next = self.new.next }) (view.how how.entry)) }
         ensures counted { OnOk result (self.new.count ≡ self.old.count + 1) }
         ensures uncounted { OnErr result (self.new.count ≡ self.old.count) }
     {
@@ -325,17 +346,20 @@ impl<'a, J: Naming, S: Storage + Drop, V: Calls + Drop, R: Wait, L: Line, T: Tim
 impl<J: Naming, S: Storage + Drop, V: Calls + Drop, R: Wait, L: Line, T: Times> Outbox
     for Pending<'_, J, S, V, R, L, T> {
     ghost use Rattle.std.specs.Prelude.{⊤};
-    ghost use Rattle.gw_delivery.specs.Waiting.{Gives, Settles};
+    ghost use Rattle.gw_delivery.specs.Waiting.{Gives, Settles, Stays};
 
     ghost count = { λ p. p.count };
 
-    ghost gives = { λ old new bytes. Gives J.before new.receiver new.name.now new.next bytes };
+    ghost gives = { λ old new bytes. Gives J.before (record { receiver = old.receiver; name = old.name.now; from = old.from; next = old.next })
+        (record { receiver = new.receiver; name = new.name.now; from = new.from; next = new.next }) bytes };
 
-    ghost closes = { λ old new. ⊤ };
+    ghost closes = { λ old new. Stays (record { receiver = old.receiver; name = old.name.now; from = old.from; next = old.next })
+        (record { receiver = new.receiver; name = new.name.now; from = new.from; next = new.next }) };
 
     ghost breaks = { λ old new fault. ⊤ };
 
-    ghost settles = { λ old new ack taken. Settles J.before old.next new.next ack taken };
+    ghost settles = { λ old new ack taken. Settles J.before (record { receiver = old.receiver; name = old.name.now; from = old.from; next = old.next })
+        (record { receiver = new.receiver; name = new.name.now; from = new.from; next = new.next }) ack taken };
 
     ghost fails = { λ old new ack fault. ⊤ };
 

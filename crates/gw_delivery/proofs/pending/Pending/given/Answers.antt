@@ -1,4 +1,4 @@
-use Rattle.std.proofs.Common.{◌≡◌, ◌∙◌, sym, arith}
+use Rattle.std.proofs.Common.{◌≡◌, ◌∙◌, refl, sym, arith}
 use Rattle.std.proofs.lemmas.Bool.Decides.{Decides-eqb, nat_tests}
 use Rattle.std.specs.Cmp.Lexicographic.{pointwise_decides}
 use Rattle.gw_delivery.proofs.pending.Pending.given.Goals as goal
@@ -16,5 +16,6 @@ returns-then-eq g c =
       is_next = c.front-front.ensures.next;
       receiver_is = same;
       name_is = sym c.name.ensures ∙ name;
+      behind = rw (c.from.ensures ∙ c.found-2.ensures.from) at c.if-not-is_behind.ensures refl;
       are = c.in_ok-bytes.ensures;
     }
