@@ -1,3 +1,5 @@
 pub mod Crossing
 pub mod Seeing
 pub mod Making
+pub mod Passing
+pub mod Delivering

@@ -115,3 +115,14 @@ there_ok items before u place history name content number to (Ok b) is same p st
       made = subst (λ k. IsMade (plan_at k (events_of entries)) name content (items b)) (sym same)
           (subst (λ t. IsMade t name content (items b)) (sym under.plan) made);
     }
+
+pub once_in : (name : List ℕ) (place : ℕ) (bytes : List ℕ) (before : List (List ℕ)) (history : List happened.Event)
+    → InJournal (IsMadeThere name place bytes) before history → InJournal (IsMadeAt name place bytes) before history
+once_in name place bytes before history is faithful entries spells = once name place bytes (events_of entries) (is faithful entries spells)
+
+pub again_in : (name : List ℕ) (place at : ℕ) (bytes : List ℕ) (before : List (List ℕ)) (old history : List happened.Event)
+    → InJournal (IsAgainAt place at) before old → IsPrefix old history → InJournal (IsMadeThere name at bytes) before history
+    → InJournal (IsMadeAt name place bytes) before history
+again_in name place at bytes before old history here p is faithful entries spells =
+    again name place at bytes (events_of entries) (later (IsAgainAt place at) before old history (again_stays place at) here p faithful entries spells)
+    (is faithful entries spells)

@@ -1,3 +1,4 @@
 pub mod Seen
 pub mod Made
 pub mod Waiting
+pub mod Delivering

@@ -132,7 +132,7 @@ impl<'a, J: Naming, S: Storage + Drop, V: Calls + Drop, R: Wait> Finder<'a, J, S
             return Ok(None);
         }
         if sight.place() > scan.at() {
-            return self.walk.damaged();
+            return Err(self.walk.damaged());
         }
         let mut office = self.journal.lock(self.rt);
         Ok(office.ledger.over(scan, sight.bytes())?)
@@ -151,7 +151,7 @@ impl<'a, J: Naming, S: Storage + Drop, V: Calls + Drop, R: Wait> Finder<'a, J, S
     {
         let other = self.others.find(self.rt, self.journal, tail, at)?;
         if !sight.front().begins(other.front()) {
-            return self.others.damaged();
+            return Err(self.others.damaged());
         }
         let bytes = made_there(
             self.rt,

@@ -80,8 +80,16 @@ impl<'a, J: Naming> Next<'a, J> {
     pub(crate) fn found(&self) -> &Found<J>
         ensures receiver { result.now.receiver ≡ self.now.receiver }
         ensures place { result.now.place ≡ self.now.place }
+        ensures from { result.now.from ≡ self.now.from }
     {
         &self.found
+    }
+
+    /// The name of its receiver.
+    pub(crate) fn name(&self) -> &'a [u8]
+        ensures { result.now ≡ self.now.name }
+    {
+        self.name
     }
 
     /// What was seen of the journal.

@@ -59,12 +59,16 @@ impl<V: Calls + Drop> Pages<V> {
         self.plan
     }
 
-    // Where it stands, as a fault.
-    pub(crate) fn damaged<T>(&self) -> Result<T, PageFault> {
-        Err(PageFault::Damaged {
+    /// The fault of what stands here.
+    pub(crate) fn fault(&self) -> PageFault {
+        PageFault::Damaged {
             segment: self.segment,
             at: self.at,
-        })
+        }
+    }
+
+    fn damaged<T>(&self) -> Result<T, PageFault> {
+        Err(self.fault())
     }
 
     /// Before any file again.

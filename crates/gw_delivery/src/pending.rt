@@ -1,24 +1,23 @@
 //! What waits for a receiver, as its forwarder takes it.
-ghost use Rattle.std.specs.Prelude.{◌≡◌, IfOk, IsNone, IsTrue, IsFalse, OnOk, OnErr};
+ghost use Rattle.std.specs.Prelude.{◌≡◌, ◌≤◌, ◌+◌, IfOk, IfSome, IsNone, IsTrue, IsFalse, OnOk, OnErr, Some};
 ghost use Rattle.gw_due.specs.Views as view;
 ghost use Rattle.gw_delivery.specs.Waiting as spec;
-ghost use Rattle.gw_delivery.specs.Waiting.{Finds, GoesOn, IsPassed, Passes};
+ghost use Rattle.gw_delivery.specs.Waiting.{IsGiven, IsPassed, Passes, Stays};
 
 use crate::fault::PageFault;
 use crate::finder::Finder;
-use crate::next::{Next, longer};
+use crate::next::Next;
 use crate::pages::Tail;
 use crate::plans::Plans;
 use gw_ack::Ack;
 use gw_due::How;
 use gw_forward::{Outbox, OutboxFault};
 use gw_gateway::{Office, Times};
-use gw_journal::{Front, Journal, JournalFault, Naming, Receipt, Storage};
+use gw_journal::{Journal, JournalFault, Naming, Receipt, Storage};
 use gw_ledger::{Found, LedgerFault};
 use gw_log::Calls;
 use std::alloc::Global;
 use std::cell::Cell;
-use std::marker::Model;
 use std::sync::Wait;
 
 /// How often a message that its receiver rejects is sent.
@@ -62,8 +61,6 @@ pub struct Pending<'a, J: Naming, S: Storage + Drop, V: Calls + Drop, R: Wait, L
     times: &'a T,
     receiver: u32,
     name: &'a [u8],
-    // what was seen of the journal
-    front: Front<J>,
     // where what is left for it begins
     from: Option<u64>,
     next: Option<Next<'a, J>>,
@@ -71,32 +68,6 @@ pub struct Pending<'a, J: Naming, S: Storage + Drop, V: Calls + Drop, R: Wait, L
     sent: &'a Cell<bool>,
     tries: u64,
     count: u64,
-}
-
-impl<'a, J: Naming, S: Storage + Drop, V: Calls + Drop, R: Wait, L, T> Model
-    for Pending<'a, J, S, V, R, L, T> {
-    ghost use Rattle.std.specs.Prelude.{IfSome};
-    ghost use Rattle.gw_delivery.specs.Waiting.{IsNextOf, PendingState};
-
-    ghost Value = { PendingState };
-
-    ghost view = { λ p. record {
-      receiver = p.receiver;
-      name = p.name.now;
-      from = p.from;
-      next = p.next;
-      history = p.front;
-      count = p.count;
-    } };
-
-    ghost invariant = { λ p. IfSome p.next (IsNextOf J.before (record {
-      receiver = p.receiver;
-      name = p.name.now;
-      from = p.from;
-      next = p.next;
-      history = p.front;
-      count = p.count;
-    })) };
 }
 
 /// How a receiver stands in the log: how many are left for it, and up to where the log counts.
@@ -145,6 +116,16 @@ fn passed<J: Naming, S: Storage + Drop, R: Wait>(
     }
 }
 
+// Whether the place isn't before the other, where there is one.
+fn is_behind(place: u64, other: Option<u64>) -> bool
+    ensures { IsTrue result → IfSome other (λ from. from ≤ place) }
+{
+    match other {
+        Some(from) => from <= place,
+        None => true,
+    }
+}
+
 // How a receiver passes what it acknowledged so.
 fn how(ack: Ack) -> How<'static>
     ensures { view.how result ≡ spec.how ack }
@@ -183,21 +164,13 @@ impl<'a, J: Naming, S: Storage + Drop, V: Calls + Drop, R: Wait, L: Line, T: Tim
         receiver: u32,
         name: &'a [u8],
         sent: &'a Cell<bool>,
-    ) -> Self
-        ensures receiver { result.receiver ≡ receiver }
-        ensures name { result.name ≡ name.now }
-        ensures from { IsNone result.from }
-        ensures next { IsNone result.next }
-        ensures count { result.count ≡ 0 }
-    {
-        let front = journal.lock(rt).ledger.front().again();
+    ) -> Self {
         Pending {
             finder: Finder::new(rt, alloc, journal, plans, views),
             line,
             times,
             receiver,
             name,
-            front,
             from: None,
             next: None,
             sent,
@@ -213,30 +186,47 @@ impl<'a, J: Naming, S: Storage + Drop, V: Calls + Drop, R: Wait, L: Line, T: Tim
 
     // Keeps what was found, where it is this receiver's, from where what is left for it begins.
     fn keep(&mut self, next: Next<'a, J>) -> bool
-        requires none { IsNone self.old.next }
-        requires name { next.name ≡ self.old.name }
-        ensures kept { IsTrue result → Finds J.before self.old self.new }
-        ensures same { IsFalse result → self.new ≡ self.old }
+        ensures count { self.new.count ≡ self.old.count }
+        ensures stays { Stays (record { receiver = self.old.receiver; name = self.old.name.now; from = self.old.from; next = self.old.next })
+            (record { receiver = self.new.receiver; name = self.new.name.now; from = self.new.from; next = self.new.next }) }
     {
         if next.found().receiver() != self.receiver {
             return false;
         }
-        if let Some(from) = self.from
-            && from > next.found().from()
-        {
+        if !is_behind(next.found().from(), self.from) {
             return false;
         }
-        self.front = longer(&self.front, next.front());
         self.next = Some(next);
         true
     }
 
+    // What the receiver is sent of what is next. (That it is this receiver's is tested once more, since its type says nothing of it.)
+    fn given(&self) -> Result<Option<Vec<u8>>, OutboxFault>
+        ensures { IfOk result (λ found. IfSome found (λ bytes. IsGiven J.before
+            (record { receiver = self.now.receiver; name = self.now.name.now; from = self.now.from; next = self.now.next }) bytes.items)) }
+    {
+        let Some(next) = &self.next else {
+            return Err(OutboxFault::Record);
+        };
+        // (called for its clause: it is the next)
+        let _front = next.front();
+        if next.found().receiver() != self.receiver {
+            return Err(OutboxFault::Disk);
+        }
+        if !is_behind(next.found().from(), self.from) {
+            return Err(OutboxFault::Disk);
+        }
+        if next.name() == self.name {
+            return Ok(Some(next.bytes(self.finder.alloc)?));
+        }
+        Err(OutboxFault::Disk)
+    }
+
     // Reads on to what is next. False: it doesn't count yet.
     fn read_on(&mut self, tail: Tail) -> Result<bool, OutboxFault>
-        requires { IsNone self.old.next }
-        ensures found { IfOk result (λ found. IsTrue found → Finds J.before self.old self.new) }
-        ensures none { IfOk result (λ found. IsFalse found → self.new ≡ self.old) }
-        ensures err { OnErr result (self.new ≡ self.old) }
+        ensures count { self.new.count ≡ self.old.count }
+        ensures stays { Stays (record { receiver = self.old.receiver; name = self.old.name.now; from = self.old.from; next = self.old.next })
+            (record { receiver = self.new.receiver; name = self.new.name.now; from = self.new.from; next = self.new.next }) }
     {
         match self.finder.find(tail, self.receiver, self.name) {
             Ok(Some(next)) => {
@@ -258,9 +248,9 @@ impl<'a, J: Naming, S: Storage + Drop, V: Calls + Drop, R: Wait, L: Line, T: Tim
 
     // Whether what is next is known.
     fn is_ready(&mut self) -> Result<bool, OutboxFault>
-        ensures found { IfOk result (λ found. IsTrue found → Finds J.before self.old self.new) }
-        ensures none { IfOk result (λ found. IsFalse found → self.new ≡ self.old) }
-        ensures err { OnErr result (self.new ≡ self.old) }
+        ensures count { self.new.count ≡ self.old.count }
+        ensures stays { Stays (record { receiver = self.old.receiver; name = self.old.name.now; from = self.old.from; next = self.old.next })
+            (record { receiver = self.new.receiver; name = self.new.name.now; from = self.new.from; next = self.new.next }) }
     {
         if self.next.is_some() {
             return Ok(true);
@@ -278,15 +268,18 @@ impl<'a, J: Naming, S: Storage + Drop, V: Calls + Drop, R: Wait, L: Line, T: Tim
         self.read_on(standing.tail)
     }
 
-    // Goes on behind this place, by the receipt for its pass. False: the receipt is of an earlier moment.
-    fn go_on(&mut self, place: u64, receipt: &Receipt<J>) -> bool
-        ensures on { IsTrue result → GoesOn self.old self.new place receipt.now.history }
-        ensures same { IsFalse result → self.new ≡ self.old }
+    // Goes on behind this place, which was passed. False: no more can be counted.
+    fn go_on(&mut self, place: u64) -> bool
+        ensures gone { IsTrue result → IsNone self.new.next }
+        ensures from { IsTrue result → self.new.from ≡ Some (place + 1) }
+        ensures receiver { self.new.receiver ≡ self.old.receiver }
+        ensures name { self.new.name ≡ self.old.name }
+        ensures counted { IsTrue result → self.new.count ≡ self.old.count + 1 }
+        ensures uncounted { IsFalse result → self.new.count ≡ self.old.count }
     {
-        if place == u64::MAX || self.count == u64::MAX || !self.front.begins(receipt.front()) {
+        if place == u64::MAX || self.count == u64::MAX {
             return false;
         }
-        self.front = receipt.front().again();
         self.from = Some(place + 1);
         self.next = None;
         self.count += 1;
@@ -305,16 +298,18 @@ impl<'a, J: Naming, S: Storage + Drop, V: Calls + Drop, R: Wait, L: Line, T: Tim
 
     // The receiver passes what is next. Its place.
     fn pass(&mut self, how: How<'_>) -> Result<u64, OutboxFault>
-        ensures ok { OnOk result (Passes J.before self.old self.new (view.how how.entry)) }
-        ensures err { OnErr result (self.new ≡ self.old) }
+        ensures passes { OnOk result (Passes J.before (record { receiver = self.old.receiver; name = self.old.name.now; from = self.old.from; next = self.old.next })
+            (record { receiver = self.new.receiver; name = self.new.name.now; from = self.new.from; next = self.new.next }) (view.how how.entry)) }
+        ensures counted { OnOk result (self.new.count ≡ self.old.count + 1) }
+        ensures uncounted { OnErr result (self.new.count ≡ self.old.count) }
     {
         let Some(next) = &self.next else {
             return Err(OutboxFault::Record);
         };
         let (time, place) = (self.times.time(), next.found().place());
         let (rt, journal) = (self.finder.rt, self.finder.journal);
-        let receipt = passed(rt, journal, time, next.found(), how)?;
-        if !self.go_on(place, &receipt) {
+        let _receipt = passed(rt, journal, time, next.found(), how)?;
+        if !self.go_on(place) {
             return Err(OutboxFault::Disk);
         }
         self.show();
@@ -322,16 +317,14 @@ impl<'a, J: Naming, S: Storage + Drop, V: Calls + Drop, R: Wait, L: Line, T: Tim
     }
 
     // What is next, but can't be made, is passed as refused.
-    fn pass_unmade(&mut self) -> Result<(), OutboxFault>
-        ensures err { OnErr result (self.new ≡ self.old) }
-    {
+    fn pass_unmade(&mut self) -> Result<(), OutboxFault> {
         let Some((found, fault)) = &self.finder.aside else {
             return Err(OutboxFault::Record);
         };
         let (time, place, fault) = (self.times.time(), found.place(), *fault);
         let (rt, journal) = (self.finder.rt, self.finder.journal);
-        let receipt = passed(rt, journal, time, found, how(Ack::AR))?;
-        if !self.go_on(place, &receipt) {
+        let _receipt = passed(rt, journal, time, found, how(Ack::AR))?;
+        if !self.go_on(place) {
             return Err(OutboxFault::Disk);
         }
         self.show();
@@ -340,9 +333,7 @@ impl<'a, J: Naming, S: Storage + Drop, V: Calls + Drop, R: Wait, L: Line, T: Tim
     }
 
     /// What is next can't be made, or can't be sent: it is passed as refused.
-    pub fn put_aside(&mut self) -> Result<(), OutboxFault>
-        ensures err { OnErr result (self.new ≡ self.old) }
-    {
+    pub fn put_aside(&mut self) -> Result<(), OutboxFault> {
         if self.next.is_none() {
             return self.pass_unmade();
         }
@@ -354,20 +345,23 @@ impl<'a, J: Naming, S: Storage + Drop, V: Calls + Drop, R: Wait, L: Line, T: Tim
 
 impl<J: Naming, S: Storage + Drop, V: Calls + Drop, R: Wait, L: Line, T: Times> Outbox
     for Pending<'_, J, S, V, R, L, T> {
-    ghost use Rattle.std.specs.Prelude.{◌≡◌, ◌⊎◌};
-    ghost use Rattle.gw_delivery.specs.Waiting.{Finds, Gives, Settles};
+    ghost use Rattle.std.specs.Prelude.{⊤};
+    ghost use Rattle.gw_delivery.specs.Waiting.{Gives, Settles, Stays};
 
     ghost count = { λ p. p.count };
 
-    ghost gives = { λ old new bytes. Gives J.before old new bytes };
+    ghost gives = { λ old new bytes. Gives J.before (record { receiver = old.receiver; name = old.name.now; from = old.from; next = old.next })
+        (record { receiver = new.receiver; name = new.name.now; from = new.from; next = new.next }) bytes };
 
-    ghost closes = { λ old new. new ≡ old };
+    ghost closes = { λ old new. Stays (record { receiver = old.receiver; name = old.name.now; from = old.from; next = old.next })
+        (record { receiver = new.receiver; name = new.name.now; from = new.from; next = new.next }) };
 
-    ghost breaks = { λ old new fault. (new ≡ old) ⊎ Finds J.before old new };
+    ghost breaks = { λ old new fault. ⊤ };
 
-    ghost settles = { λ old new ack taken. Settles J.before old new ack taken };
+    ghost settles = { λ old new ack taken. Settles J.before (record { receiver = old.receiver; name = old.name.now; from = old.from; next = old.next })
+        (record { receiver = new.receiver; name = new.name.now; from = new.from; next = new.next }) ack taken };
 
-    ghost fails = { λ old new ack fault. new ≡ old };
+    ghost fails = { λ old new ack fault. ⊤ };
 
     fn count(&self) -> u64 {
         self.count
@@ -379,10 +373,7 @@ impl<J: Naming, S: Storage + Drop, V: Calls + Drop, R: Wait, L: Line, T: Times> 
                 return Ok(None);
             }
             if !self.line.is_held() && self.is_ready()? {
-                return match &self.next {
-                    Some(next) => Ok(Some(next.bytes(self.finder.alloc)?)),
-                    None => unreachable!(),
-                };
+                return self.given();
             }
             self.line.wait();
         }

@@ -35,9 +35,9 @@ impl<J: Naming, V: Calls + Drop> Walk<J, V> {
         &self.under
     }
 
-    /// Where it stands, as a fault.
-    pub(crate) fn damaged<T>(&self) -> Result<T, PageFault> {
-        self.pages.damaged()
+    /// The fault of what stands here.
+    pub(crate) fn damaged(&self) -> PageFault {
+        self.pages.fault()
     }
 
     // Whether it can be read on from here to this place.
@@ -73,7 +73,7 @@ impl<J: Naming, V: Calls + Drop> Walk<J, V> {
         let mut office = journal.lock(rt);
         match note(&mut office.ledger, page) {
             Some(sight) => Ok(Some(sight)),
-            None => self.damaged(),
+            None => Err(self.damaged()),
         }
     }
 
@@ -82,7 +82,7 @@ impl<J: Naming, V: Calls + Drop> Walk<J, V> {
         let entry = match sight.entry(self.alloc) {
             Ok(entry) => entry,
             Err(ReadFault::Memory) => return Err(PageFault::Memory),
-            Err(ReadFault::Unreadable) => return self.damaged(),
+            Err(ReadFault::Unreadable) => return Err(self.damaged()),
         };
         match behind(self.alloc, self.under.take(), sight, &entry.event) {
             Ok(under) => {
@@ -109,13 +109,13 @@ impl<J: Naming, V: Calls + Drop> Walk<J, V> {
         self.seek(tail, place)?;
         for _ in 0..u64::MAX {
             let Some(sight) = self.next(rt, journal, tail)? else {
-                return self.damaged();
+                return Err(self.damaged());
             };
             if sight.place() == place {
                 return Ok(sight);
             }
             self.go_on(&sight)?;
         }
-        self.damaged()
+        Err(self.damaged())
     }
 }
