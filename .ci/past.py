@@ -11,7 +11,7 @@ import time
 from disks import NOW, begun, lay, report
 from gateway import REPORT, Receiver, control
 from loads import message, plan_for, routed
-from log_files import TAKEN, accepted, again, chain, passed, planned, refused
+from log_files import TAKEN, accepted, again, chain, margin, name, named, passed, planned, refused, state
 from loopback import ANSWERS, LEFT, MESSAGES, Differs, same
 from preload import library_in
 
@@ -142,38 +142,43 @@ def moved_on(gateway, each=100):
     gateway.kill()
 
 
-def lies_refused(gateway):
-    """Files whose messages all were passed are taken away when the next file is begun, but for those of what lies refused, and their plans."""
-    # (a file is ended at 64 MB: large messages, of which one is refused)
-    one = Receiver(codes=[b"AA", b"AE", b"AA"])
+def lies_refused(gateway, large=67, limit=67_108_864):
+    """A file is taken away when the next is begun, if all its messages were passed. One stays that has what lies refused, or what is due once more."""
     gateway.until += 120
+    one = Receiver()
     gateway.receivers = {"ONE": one}
     (gateway.room / "plan").write_text(plan_for({"ONE": one.address}))
-    gateway.start()
-    line, bulk = gateway.client(), b"x" * 1_000_000
-    files = lambda: sorted(int(it.name.split(".")[0]) for it in gateway.folder.glob("*.segment"))
-
-    def send_file(tag):
-        for at in range(68):
-            same("an answer", [b"AA"], codes(line.ask([message(b"%s%d" % (tag, at), bulk=bulk)])))
-        # (so that all are passed, and the files have been looked at)
-        same("what waits", [0], gateway.once([0], gateway.waiting))
-        time.sleep(6)
-
-    send_file(b"A")
-    send_file(b"B")
-    same("files, while one lies refused in the first", [1, 2, 3], files())
-    same("resend", (0, "resent 1\n"), gateway.tell("resend", "ONE"))
-    same("what waits", [0], gateway.once([0], gateway.waiting))
-    time.sleep(6)
-    send_file(b"C")
-    if 1 in files():
-        raise Differs(f"the first file is still there: {files()}")
-    same("how many came", 68 * 3 + 1, len(one.blocks))
-    same("what came again", b"A1", control(one.blocks[68 * 2]))
-    gateway.kill()
-    gateway.start()
-    gateway.kill()
+    text, address = (gateway.room / "plan").read_bytes(), one.address.encode()
+    first, bulk = message(b"FIRST"), message(b"BULK", bulk=b"x" * 1_000_000)[1:-2]
+    delivered = [accepted(NOW, 2 + at, [1], bulk) for at in range(large)]
+    again_taken = [again(NOW, 1, 3), passed(NOW, 1, 6, TAKEN)]
+    for what, how, behind, stated, comes in (
+        ("taken", TAKEN, [], [2, 3], []),
+        ("refused", refused(1, b""), [], [1, 2, 3], []),
+        ("refused, and taken when it came again", refused(1, b""), again_taken, [2, 3], []),
+        ("refused, and due once more", refused(1, b""), again_taken[:1], [1, 2, 3], [first]),
+    ):
+        one.close()
+        one.blocks.clear()
+        begun = [named(NOW, 1, b"ONE", address), planned(NOW, text), margin(NOW, 10_001), accepted(NOW, 1, [1], first[1:-2]), passed(NOW, 1, 3, how)]
+        # (the last file is nearly as long as one may be: the start's plan fits, and behind the next message another file is begun. In it all is passed that doesn't come again)
+        second = [planned(NOW, text), *(behind if len(behind) == 2 else [])]
+        for it in delivered:
+            second += [it, passed(NOW, 1, 5 + len(second), TAKEN)]
+        checkpoint = state(5, [(1, b"ONE", address, 4, 0, 0 if how == TAKEN else 1)], plan=1, last=1, below=10_001)
+        files_of = lambda *last: chain([begun, [*second, *last]], checkpoints={2: checkpoint})
+        last = lambda bulk: [accepted(NOW, 2 + large, [1], message(b"BULK", bulk=b"x" * bulk)[1:-2]), passed(NOW, 1, 5 + len(second), TAKEN), *behind[: len(behind) % 2]]
+        lay(gateway, files_of(*last(limit - 1_200 - len(files_of(*last(0))[name(2)]))))
+        gateway.start()
+        # (so that the files have been looked at)
+        time.sleep(8)
+        sent = [message(b"LAST%02d" % at) for at in range(12)]
+        same(f"{what}: answers", [b"AA"] * 12, codes(gateway.ask(sent)))
+        files = lambda: sorted(int(it.name.split(".")[0]) for it in gateway.folder.glob("*.segment"))
+        same(f"{what}: which files the log has", stated, gateway.once(stated, files))
+        one.open(one.port)
+        one.has([*comes, *sent], gateway.until)
+        gateway.kill()
 
 
 def by_run(gateway):
