@@ -142,42 +142,39 @@ def moved_on(gateway, each=100):
     gateway.kill()
 
 
-def lies_refused(gateway, large=67, limit=67_108_864):
-    """A file is taken away when the next is begun, if all its messages were passed. One stays that has what lies refused, or what is due once more."""
-    gateway.until += 120
+def lies_refused(gateway, large=66, limit=67_108_864):
+    """A file is taken away when the next is begun, if all its messages were passed. One stays that has what lies refused, until that came again and was taken."""
+    gateway.until += 180
     one = Receiver()
     gateway.receivers = {"ONE": one}
     (gateway.room / "plan").write_text(plan_for({"ONE": one.address}))
     text, address = (gateway.room / "plan").read_bytes(), one.address.encode()
-    first, bulk = message(b"FIRST"), message(b"BULK", bulk=b"x" * 1_000_000)[1:-2]
-    delivered = [accepted(NOW, 2 + at, [1], bulk) for at in range(large)]
-    again_taken = [again(NOW, 1, 3), passed(NOW, 1, 6, TAKEN)]
-    for what, how, behind, stated, comes in (
-        ("taken", TAKEN, [], [2, 3], []),
-        ("refused", refused(1, b""), [], [1, 2, 3], []),
-        ("refused, and taken when it came again", refused(1, b""), again_taken, [2, 3], []),
-        ("refused, and due once more", refused(1, b""), again_taken[:1], [1, 2, 3], [first]),
+    content = lambda size=0: message(b"BULK", bulk=b"x" * size)[1:-2]
+    plan, bulk = planned(NOW, text), content(1_000_000)
+    first = [named(NOW, 1, b"ONE", address), plan, margin(NOW, 10_001), accepted(NOW, 1, [1], content()), passed(NOW, 1, 3, TAKEN)]
+    second = [plan, accepted(NOW, 2, [1], content()), passed(NOW, 1, 6, refused(1, b""))]
+    checkpoints = {2: state(5, [(1, b"ONE", address, 4)], plan=1, last=1, below=10_001), 3: state(8, [(1, b"ONE", address, 7, 0, 1)], plan=5, last=2, below=10_001)}
+    for what, third, stated in (
+        ("one lies refused in the second", [plan], [2, 3, 4]),
+        ("it came again, and was taken", [plan, again(NOW, 1, 6), passed(NOW, 1, 9, TAKEN)], [3, 4]),
     ):
         one.close()
         one.blocks.clear()
-        begun = [named(NOW, 1, b"ONE", address), planned(NOW, text), margin(NOW, 10_001), accepted(NOW, 1, [1], first[1:-2]), passed(NOW, 1, 3, how)]
-        # (the last file is nearly as long as one may be: the start's plan fits, and behind the next message another file is begun. In it all is passed that doesn't come again)
-        second = [planned(NOW, text), *(behind if len(behind) == 2 else [])]
-        for it in delivered:
-            second += [it, passed(NOW, 1, 5 + len(second), TAKEN)]
-        checkpoint = state(5, [(1, b"ONE", address, 4, 0, 0 if how == TAKEN else 1)], plan=1, last=1, below=10_001)
-        files_of = lambda *last: chain([begun, [*second, *last]], checkpoints={2: checkpoint})
-        last = lambda bulk: [accepted(NOW, 2 + large, [1], message(b"BULK", bulk=b"x" * bulk)[1:-2]), passed(NOW, 1, 5 + len(second), TAKEN), *behind[: len(behind) % 2]]
-        lay(gateway, files_of(*last(limit - 1_200 - len(files_of(*last(0))[name(2)]))))
+        for at in range(large):
+            third = [*third, accepted(NOW, 3 + at, [1], bulk), passed(NOW, 1, 8 + len(third), TAKEN)]
+        # (the last file is nearly as long as one may be: the start's plan fits, and behind the next messages another file is begun)
+        with_last = lambda size: chain([first, second, [*third, accepted(NOW, 3 + large, [1], content(size)), passed(NOW, 1, 8 + len(third), TAKEN)]], checkpoints=checkpoints)
+        lay(gateway, with_last(limit - 1_200 - len(with_last(0)[name(3)])))
+        since = time.monotonic()
         gateway.start()
-        # (so that the files have been looked at)
-        time.sleep(8)
+        # (so that the files have been looked at: a start reads the last one, and then all are read)
+        time.sleep(6 + 2 * (time.monotonic() - since))
         sent = [message(b"LAST%02d" % at) for at in range(12)]
         same(f"{what}: answers", [b"AA"] * 12, codes(gateway.ask(sent)))
         files = lambda: sorted(int(it.name.split(".")[0]) for it in gateway.folder.glob("*.segment"))
         same(f"{what}: which files the log has", stated, gateway.once(stated, files))
         one.open(one.port)
-        one.has([*comes, *sent], gateway.until)
+        one.has(sent, gateway.until)
         gateway.kill()
 
 
