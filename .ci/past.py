@@ -142,6 +142,15 @@ def moved_on(gateway, each=100):
     gateway.kill()
 
 
+def rests(gateway, seconds=6):
+    """Waits until the gateway has used hardly any processor time for so long."""
+    used = lambda: sum(map(int, open(f"/proc/{gateway.process.pid}/stat").read().rsplit(") ", 1)[1].split()[11:13]))
+    before, now = -9, used()
+    while now - before > 4 and time.monotonic() < gateway.until:
+        time.sleep(seconds)
+        before, now = now, used()
+
+
 def lies_refused(gateway, large=66, limit=67_108_864):
     """A file is taken away when the next is begun, if all its messages were passed. One stays that has what lies refused, until that came again and was taken."""
     gateway.until += 180
@@ -165,10 +174,9 @@ def lies_refused(gateway, large=66, limit=67_108_864):
         # (the last file is nearly as long as one may be: the start's plan fits, and behind the next messages another file is begun)
         with_last = lambda size: chain([first, second, [*third, accepted(NOW, 3 + large, [1], content(size)), passed(NOW, 1, 8 + len(third), TAKEN)]], checkpoints=checkpoints)
         lay(gateway, with_last(limit - 1_200 - len(with_last(0)[name(3)])))
-        since = time.monotonic()
         gateway.start()
-        # (so that the files have been looked at: a start reads the last one, and then all are read)
-        time.sleep(6 + 2 * (time.monotonic() - since))
+        # (so that the files have been looked at)
+        rests(gateway)
         sent = [message(b"LAST%02d" % at) for at in range(12)]
         same(f"{what}: answers", [b"AA"] * 12, codes(gateway.ask(sent)))
         files = lambda: sorted(int(it.name.split(".")[0]) for it in gateway.folder.glob("*.segment"))
