@@ -168,6 +168,22 @@ def long_translation(gateway, results=5_000):
     gateway.kill()
 
 
+def large_translation(gateway, size=900_000):
+    """A translation that is longer than a message may be is sent, and again once its receiver has refused it."""
+    one = Receiver(codes=[b"AE", b"AA"])
+    gateway.receivers = {"ONE": one}
+    (gateway.room / "plan").write_text(plan_for({"ONE": one.address}, items=COPY.replace("copy 3 from MSH-3", "copy 3 from MSH-8") + "drop MSH-3\n"))
+    gateway.start()
+    bulk = b"x" * size
+    same("the code", [b"AA"], [re.search(rb"MSA\|(\w+)", it)[1] for it in gateway.ask([message(b"LARGE", bulk=bulk)])])
+    stated = message(b"LARGE", sender=bulk, bulk=bulk)
+    one.has([stated], gateway.until)
+    gateway.wait(r"receiver ONE answered AE: the message is at place \d+ of the log in folder")
+    same("resend", (0, "resent 1\n"), gateway.tell("resend", "ONE"))
+    one.has([stated, stated], gateway.until)
+    gateway.kill()
+
+
 def routed(receivers, events):
     """A plan that has each event sent to a receiver of its own."""
     head, _ = plan_for(receivers).split("route ")
