@@ -1,2 +1,3 @@
-pub mod Seeing
 pub mod Crossing
+pub mod Seeing
+pub mod Making

@@ -1,5 +1,5 @@
 -- What waits for a receiver, and what comes of it.
-use Rattle.std.specs.Prelude.{◌≡◌, ◌+◌, ℕ, Bool, true, false, List, [], Option, Some, None, IfSome}
+use Rattle.std.specs.Prelude.{◌≡◌, ◌≤◌, ◌+◌, ℕ, Bool, true, false, List, [], Option, Some, None, IfSome}
 use mathlib.Core.List.{IsPrefix}
 use Rattle.gw_ack.specs.declared.receipt.Ack.{Ack}
 use Rattle.gw_ack.specs.declared.receipt.Ack.TheVariants.{AA, AE, AR}
@@ -40,7 +40,7 @@ pub record IsNextOf (before : List (List ℕ)) (p : PendingState) (n : NextState
   pub is_next : IsNextFor before n
   pub receiver : n.receiver ≡ p.receiver
   pub name : n.name ≡ p.name
-  pub from : IfSome p.from (λ from. n.from ≡ from)
+  pub from : IfSome p.from (λ from. from ≤ n.from)
   pub seen : IsPrefix n.history p.history
 
 -- what is next is known: what was known and isn't settled, or it was found

@@ -1,12 +1,21 @@
 //! What is next for a receiver.
-ghost use Rattle.std.specs.Prelude.{◌≡◌, IfSome};
-ghost use Rattle.gw_ledger.specs.Finding.{InJournal};
-ghost use Rattle.gw_delivery.specs.Made.{IsMadeAt};
+ghost use mathlib.Core.List.{IsPrefix};
 
 use gw_journal::{Front, Naming};
 use gw_ledger::Found;
 use std::alloc::{AllocError, Global};
 use std::marker::Model;
+
+/// The longer of two beginnings of a history.
+pub(crate) fn longer<J: Naming>(one: &Front<J>, other: &Front<J>) -> Front<J>
+    ensures one { IsPrefix one.now result }
+    ensures other { IsPrefix other.now result }
+{
+    if one.begins(other) {
+        return other.again();
+    }
+    one.again()
+}
 
 /// What was found in the log for a receiver, and what it is sent of it.
 #[derive(Drop)]
@@ -58,11 +67,7 @@ impl<'a, J: Naming> Next<'a, J> {
     {
         // (called for its clause: it is the first that is due)
         let _place = found.place();
-        let front = if front.begins(found.front()) {
-            found.front().again()
-        } else {
-            front
-        };
+        let front = longer(&front, found.front());
         Next {
             found,
             name,

@@ -20,10 +20,9 @@ pub struct Past<V: Calls + Drop> {
 
 /// Whether what is due to a receiver at this place is left for it.
 fn is_left(state: &State, receiver: u32, place: u64) -> bool {
-    state
-        .receivers()
-        .iter()
-        .any(|one| one.number() == receiver && one.left() > 0 && one.from() <= place)
+    state.receivers().iter().any(|one| one.number() == receiver
+        && one.left() > 0
+        && one.from() <= place)
 }
 
 /// The same of any of these receivers.
@@ -95,18 +94,19 @@ impl<V: Calls + Drop> Past<V> {
         state: &State,
         plan: Option<u64>,
         at: u64,
-        event: &Event<'_>,
+        event: Event<'_>,
     ) -> Result<(), PageFault> {
         match event {
             Event::Accepted { to, .. } => {
-                if is_left_to(state, to, at) {
+                if is_left_to(state, &to, at) {
                     return self.look_at_plan(plan);
                 }
             }
             Event::Again { receiver, place } => {
-                if is_left(state, *receiver, at) {
-                    let _message = self.others.find(self.tail, *place)?;
-                    return self.look_at_plan(self.others.plan());
+                if is_left(state, receiver, at) {
+                    let _message = self.others.find(self.tail, place)?;
+                    let plan = self.others.plan();
+                    return self.look_at_plan(plan);
                 }
             }
             _ => {}
@@ -130,7 +130,7 @@ impl<V: Calls + Drop> Past<V> {
                     if let Event::Planned { .. } = entry.event {
                         plan = Some(page.place);
                     }
-                    self.look_at(state, plan, page.place, &entry.event)?;
+                    self.look_at(state, plan, page.place, entry.event)?;
                 }
                 Err(ReadFault::Memory) => return Err(PageFault::Memory),
                 Err(ReadFault::Unreadable) => return Err(PageFault::Message { place: page.place }),

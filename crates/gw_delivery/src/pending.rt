@@ -6,7 +6,7 @@ ghost use Rattle.gw_delivery.specs.Waiting.{Finds, GoesOn, IsPassed, Passes};
 
 use crate::fault::PageFault;
 use crate::finder::Finder;
-use crate::next::Next;
+use crate::next::{Next, longer};
 use crate::pages::Tail;
 use crate::plans::Plans;
 use gw_ack::Ack;
@@ -107,7 +107,10 @@ struct Standing {
 }
 
 // How the receiver of this number stands, if it has a name.
-fn standing_of<J: Naming, S: Storage + Drop>(office: &Office<J, S>, number: u32) -> Option<Standing> {
+fn standing_of<J: Naming, S: Storage + Drop>(
+    office: &Office<J, S>,
+    number: u32,
+) -> Option<Standing> {
     let (segment, end) = office.ledger.tail();
     for receiver in office.ledger.state().receivers() {
         if receiver.number() == number {
@@ -223,12 +226,7 @@ impl<'a, J: Naming, S: Storage + Drop, V: Calls + Drop, R: Wait, L: Line, T: Tim
         {
             return false;
         }
-        let front = if self.front.begins(next.front()) {
-            next.front().again()
-        } else {
-            self.front.again()
-        };
-        self.front = front;
+        self.front = longer(&self.front, next.front());
         self.next = Some(next);
         true
     }

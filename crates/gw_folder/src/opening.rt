@@ -133,7 +133,11 @@ pub(crate) fn settle<R: Files<File = File> + AllocGlobal + Clone + Drop>(
     for number in &numbers {
         or_failure(Asked::Sync, Some(*number), settle_one(shelf, *number))?;
     }
-    if or_failure(Asked::Read, Some(1), is_unbegun(rt.alloc(), shelf, &numbers))? {
+    if or_failure(
+        Asked::Read,
+        Some(1),
+        is_unbegun(rt.alloc(), shelf, &numbers),
+    )? {
         or_failure(Asked::Remove, Some(1), shelf.unlink(1))?;
     }
     shelf.sync_names()?;

@@ -1,5 +1,5 @@
 -- Answers that were secured are kept.
-use Rattle.std.proofs.Common.{◌≡◌, ⊤, ℕ, ◌+◌, ◌<◌, ◌≤◌, List, [], ◌∷◌, ◌++◌, length, map, take, drop, Option, None, Some, slice_get, refl, ap, sym, ◌∙◌, subst, arith, append_assoc, append-nil}
+use Rattle.std.proofs.Common.{◌≡◌, ℕ, zero, suc, ◌+◌, ◌<◌, ◌≤◌, List, [], ◌∷◌, ◌++◌, length, map, take, drop, Option, None, Some, slice_get, refl, ap, sym, ◌∙◌, subst, arith, append_assoc, append-nil}
 use Rattle.std.specs.Prelude.{IfSome, Result, Ok, Err}
 use Rattle.std.specs.List.{AllByRecursion}
 use Rattle.std.proofs.lemmas.List.{map-append, take-append-drop}
@@ -92,8 +92,8 @@ module _ (before : List (List ℕ)) where
     first : AreKept before to.history (take kept done)
 
   take_more : {X : Type 0} (k : ℕ) (xs : List X) (x : X) → k ≤ length xs → take k (xs ++ x ∷ []) ≡ take k xs
-  take_more 0 [] x le = refl
-  take_more 0 (y ∷ xs) x le = refl
+  take_more zero [] x le = refl
+  take_more zero (y ∷ xs) x le = refl
   take_more (suc k) [] x le = absurd (omega arith)
   take_more (suc k) (y ∷ xs) x le = ap (λ l. y ∷ l) (take_more k xs x (omega arith))
 
@@ -181,7 +181,7 @@ module _ (before : List (List ℕ)) where
         → HasFirst bytes (map content_of (take k done) ++ (map content_of (drop k done) ++ others))
     first_cut bytes k done others first =
         let whole : map content_of done ≡ map content_of (take k done) ++ map content_of (drop k done) =
-            ap (map content_of) (sym (take-append-drop k done)) ∙ map-append content_of (take k done) (drop k done) in
+        ap (map content_of) (sym (take-append-drop k done)) ∙ map-append content_of (take k done) (drop k done) in
         subst (HasFirst bytes) (ap (λ l. l ++ others) whole ∙ append_assoc (map content_of (take k done)) (map content_of (drop k done)) others) first
 
     cut_of : (stream : Option (List ℕ)) (k : ℕ) (done : List Exchange) (others : List (List ℕ)) → IfSome stream (λ bytes. HasFirst bytes (map content_of done ++ others))

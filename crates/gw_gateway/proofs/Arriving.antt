@@ -1,6 +1,6 @@
 -- How a message comes to its outcome.
-use Rattle.std.proofs.Common.{◌≡◌, ◌⊎◌, inl, inr, ℕ, ◌+◌, List, [], ◌∷◌, Option, None, Some, refl, ap, sym, ◌∙◌, subst, arith}
-use Rattle.std.specs.Prelude.{◌≢◌, Ok, Err}
+use Rattle.std.proofs.Common.{◌≡◌, ◌⊎◌, inl, inr, ℕ, ◌+◌, ◌<◌, List, [], ◌∷◌, Option, None, Some, refl, ap, sym, ◌∙◌, subst, arith}
+use Rattle.std.specs.Prelude.{◌≢◌, Result, Ok, Err, IfOk, OnErr}
 use mathlib.Core.List.{IsPrefix}
 use Rattle.gw_ack.specs.declared.reply.Reply.{Reply}
 use Rattle.gw_ack.specs.declared.reply.Reply.TheVariants.{Accept, Refuse, Reject}
@@ -16,6 +16,7 @@ use Rattle.gw_plan.specs.Admitted.{BreaksSo, ConformingHeld, IsAdmitted, IsRefus
 use Rattle.gw_plan.specs.Held.{PlanHeld, plan_value}
 use Rattle.gw_plan.specs.Routing.{routed}
 use Rattle.gw_plan.specs.Whole.{spelled}
+use Rattle.gw_stream.specs.declared.judge.Outcome.{Outcome}
 use Rattle.gw_stream.specs.Answers.{Message}
 use Rattle.gw_stream.specs.Served.{Routed, SaidBy}
 use Rattle.gw_validate.specs.declared.breach.Breach.{Breach}
@@ -23,10 +24,12 @@ use Rattle.gw_gateway.specs.Plans.{IsPlan, PlanState}
 use Rattle.gw_gateway.specs.Senders.{HasRecord, IsJudged, IsPlanned, IsSaid, Settles}
 use Rattle.gw_gateway.specs.Senders as senders
 use Rattle.gw_gateway.specs.Waiting.{GoesOn, IsAwaited, WaitState}
-use Rattle.gw_gateway.specs.own.Steps.{IsArrival, IsTaken, Says}
+use Rattle.gw_gateway.specs.declared.judge.Attempt.{Attempt}
+use Rattle.gw_gateway.specs.declared.judge.Attempt.TheVariants as attempt
+use Rattle.gw_gateway.specs.own.Steps.{Arrives, Attempts, IsArrival, IsTaken, Says}
 use Rattle.gw_gateway.specs.own.Steps as steps
 use Rattle.gw_gateway.proofs.Answering.{judged_later, record_later, said_later}
-use Rattle.gw_gateway.proofs.Joining.{awaited_later, goes_both, journal_later}
+use Rattle.gw_gateway.proofs.Joining.{awaited_later, goes_both, journal_later, stays}
 
 -- ---- what a plan says
 
@@ -110,3 +113,26 @@ settles_unsettled before s t what number reply on same =
 pub settles_from : (before : List (List ℕ)) (s mid t : WaitState) (what : Option Message) (number : ℕ) (reply : Reply) → GoesOn s mid → Settles before mid t what number reply
     → Settles before s t what number reply
 settles_from before s mid t what number reply first settles = record { on = goes_both s mid t first settles.on; said = settles.said }
+
+-- ---- by results
+
+module _ {E : Type 0} (before : List (List ℕ)) (s mid t : WaitState) (first : GoesOn s mid) where
+  pub attempts_of : (m n : Message) (result : Result Attempt E) → n ≡ m → IsJudged before mid.history m Accept → IfOk result (Arrives before mid t n) → IfOk result (Attempts before s t m)
+  attempts_of m n (Err e) same judged arrives = tt
+  attempts_of m n (Ok (attempt.Settled outcome)) same judged arrives =
+      settles_taken before s mid t m outcome.number outcome.reply first arrives.0 judged
+      (subst (λ k. IsArrival before mid t k outcome.number outcome.reply) same arrives.1)
+  attempts_of m n (Ok (attempt.Stale back)) same judged arrives = (goes_both s mid t first arrives.0, arrives.1 ∙ same)
+
+  pub on_err : {A : Type 0} (result : Result A E) → OnErr result (GoesOn mid t) → OnErr result (GoesOn s t)
+  on_err (Ok a) on = tt
+  on_err (Err e) on = goes_both s mid t first on
+
+  pub unsettled_of : (what : Option Message) (result : Result Outcome E) → GoesOn mid t → IfOk result (λ outcome. (outcome.reply ≡ Reject 207) ⊎ (outcome.reply ≡ Reject 207))
+      → IfOk result (λ outcome. Settles before s t what outcome.number outcome.reply)
+  unsettled_of what (Err e) on said = tt
+  unsettled_of what (Ok outcome) on (inl same) = settles_unsettled before s t what outcome.number outcome.reply (goes_both s mid t first on) same
+  unsettled_of what (Ok outcome) on (inr same) = settles_unsettled before s t what outcome.number outcome.reply (goes_both s mid t first on) same
+
+pub stays_so : (s t : WaitState) → t ≡ s → GoesOn s t
+stays_so s t same = subst (λ w. GoesOn s w) (sym same) (stays s)

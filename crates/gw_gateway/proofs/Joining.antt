@@ -1,16 +1,16 @@
 -- What was seen of a journal stays so as it goes on.
-use Rattle.std.proofs.Common.{◌≡◌, ℕ, ◌+◌, ◌<◌, ◌≤◌, List, [], ◌∷◌, ◌++◌, length, Option, None, Some, slice_get, refl, ap, sym, ◌∙◌, subst, arith, append_assoc, append-nil}
+use Rattle.std.proofs.Common.{◌≡◌, Bool, false, true, ℕ, ◌+◌, ◌<◌, ◌≤◌, List, [], ◌∷◌, ◌++◌, length, Option, None, Some, slice_get, refl, ap, sym, ◌∙◌, subst, arith, append_assoc, append-nil}
 use Rattle.std.proofs.lemmas.List.{map-append}
 use mathlib.Core.List.{IsPrefix}
 use Rattle.gw_due.specs.Events.{Event}
 use Rattle.gw_due.specs.Spelling.{Entry}
 use Rattle.gw_journal.specs.declared.event.Event as happened
-use Rattle.gw_journal.specs.Logs.{IsAt, IsStored, log_in}
+use Rattle.gw_journal.specs.Logs.{Confirms, IsAt, IsStored, TicketState, log_in}
 use Rattle.gw_journal.proofs.Logging.{log_later, at_later, stored_later}
 use Rattle.gw_ledger.specs.Ledgers.{Spells, events_of}
 use Rattle.gw_ledger.specs.Finding.{InJournal}
 use Rattle.gw_ledger.proofs.Ledging.{faithful_part, front_spelled}
-use Rattle.gw_gateway.specs.Waiting.{AllStored, GoesOn, IsAwaited, WaitState}
+use Rattle.gw_gateway.specs.Waiting.{AllStored, GoesOn, IsAwaited, IsPut, IsWaiting, WaitState, seen_in, waiting}
 
 -- ---- beginnings
 
@@ -58,3 +58,22 @@ awaited_stored before s t place bytes on all a =
 pub stored_on : (before : List (List ℕ)) (old new : List happened.Event) (place : ℕ) (bytes : List ℕ) → IsPrefix old new
     → IsStored place bytes (log_in before old) → IsStored place bytes (log_in before new)
 stored_on before old new place bytes p = stored_later place bytes (log_in before old) (log_in before new) (log_later before old new p)
+
+pub all_on : (before : List (List ℕ)) (s t : WaitState) → IsPrefix s.history t.history → t.upto ≡ s.upto → AllStored before s → AllStored before t
+all_on before s t p same all = let later = log_later before s.history t.history p in omega (arith, same, all, later.synced)
+
+-- more is seen
+pub sees_more : (before : List (List ℕ)) (front : Option (List happened.Event)) (last : Option TicketState) (waits : Bool) (more : List happened.Event)
+    → IsWaiting before front last waits → IsPrefix (seen_in front) more → IsWaiting before (Some more) last waits
+sees_more before front last waits more w p = record {
+  put = w.put;
+  done = λ none. all_on before (waiting front last) (waiting (Some more) last) p refl (w.done none);
+}
+
+-- what is waited for is on the disk by the receipt of its last record
+pub settled_so : (before : List (List ℕ)) (w : WaitState) (ticket receipt : TicketState) → w.upto ≡ ticket.place + 1 → IsPut before ticket → Confirms before ticket receipt
+    → IsPrefix receipt.history w.history → AllStored before w
+settled_so before w ticket receipt last put confirms p =
+    let stored = confirms put.bytes put.there in
+    let later = log_later before receipt.history w.history p in
+    omega (arith, last, stored.synced, later.synced)

@@ -78,11 +78,18 @@ put_there before old new e t put faithful entries spells =
 pub put_on : {S : Type 0} (before : List (List ℕ)) (old new : LedgerState S) (e : Entry) (t : TicketState) → IsPut before old new e t → IsPrefix old.desk.history new.desk.history
 put_on before old new e t put = (Put (spelled e) ∷ [], sym (ap (λ (l : LedgerState _). l.desk.history) put.is))
 
-pub put_named : {S : Type 0} (before : List (List ℕ)) (old new : LedgerState S) (time number : ℕ) (receiver : ReceiverValue) (t : TicketState)
-    → IsPut before old new (timed time (Named number receiver.name receiver.address)) t → IsNamed before receiver number new.desk.history
-put_named before old new time number receiver t put faithful entries spells =
-    named_at (events_of entries) t.place number receiver.name receiver.address
-    (put_there before old new (timed time (Named number receiver.name receiver.address)) t put faithful entries spells)
+pub put_named : {S : Type 0} (before : List (List ℕ)) (old new : LedgerState S) (time number : ℕ) (name address : List ℕ) (receiver : ReceiverValue) (t : TicketState)
+    → name ≡ receiver.name → IsPut before old new (timed time (Named number name address)) t → IsNamed before receiver number new.desk.history
+put_named before old new time number name address receiver t same put faithful entries spells =
+    subst (λ n. Contains (names (events_of entries)) (record { number = number; name = n })) same
+    (named_at (events_of entries) t.place number name address (put_there before old new (timed time (Named number name address)) t put faithful entries spells))
+
+-- the plan that was put is the one that is looked up then
+pub put_place : {S : Type 0} (before : List (List ℕ)) (old new : LedgerState S) (time place : ℕ) (text : List ℕ) (t : TicketState)
+    → IsPut before old new (timed time (Planned text)) t → new.state.plan ≡ Some place → t.place ≡ place
+put_place before old new time place text t put at =
+    let now : new.state.plan ≡ Some old.state.next = ap (λ (l : LedgerState _). l.state.plan) put.is in
+    let same : place ≡ old.state.next = cc (now, at) in put.place ∙ sym same
 
 pub all_named_later : (before : List (List ℕ)) (receivers : List ReceiverValue) (numbers : List ℕ) (old new : List happened.Event) → IsPrefix old new
     → AreNamed before receivers numbers old → AreNamed before receivers numbers new

@@ -12,6 +12,7 @@ use Rattle.gw_journal.specs.declared.event.Event as happened
 use Rattle.gw_journal.proofs.Logging.{get_front}
 use Rattle.gw_ledger.specs.Accepting.{IsRouted}
 use Rattle.gw_ledger.specs.Finding.{InJournal}
+use Rattle.gw_ledger.specs.Ledgers.{events_of}
 use Rattle.gw_plan.specs.Admitted.{ConformingHeld}
 use Rattle.gw_plan.specs.Held.{PlanHeld, RouteHeld, map_between, plan_value, route_value}
 use Rattle.gw_plan.specs.Routing.{routed}
@@ -41,7 +42,9 @@ pub take_one : {A : Type 0} (k : ℕ) (xs : List A) (x : A) → slice_get xs k �
 take_one zero [] x there = absurd (cc)
 take_one zero (y ∷ xs) x there = cc
 take_one (suc k) [] x there = absurd (cc)
-take_one (suc k) (y ∷ xs) x there = ap (λ l. y ∷ l) (take_one k xs x there)
+take_one {A} (suc k) (y ∷ xs) x there =
+    let more : suc k + 1 ≡ suc (k + 1) = omega arith in
+    ap (λ n. take n (y ∷ xs)) more ∙ ap (λ (l : List A). y ∷ l) (take_one k xs x there)
 
 pub take_all_legs : {A : Type 0} (xs : List A) → take (length xs) xs ≡ xs
 take_all_legs [] = refl
@@ -118,8 +121,10 @@ pub routed_now : (before : List (List ℕ)) (p : PlanState) (to bytes : List ℕ
     → InJournal (IsRouted IsRoutedBy p.place to bytes) before p.history
 routed_now before p to bytes is goes faithful entries spells text more there =
     let stands = is.stands faithful entries spells in
+    let log : List Event = events_of entries in
     let same : p.plan.text ≡ text = cc (stands.there, there) in
-    subst (λ t. IsRoutedBy (names (_ ++ more)) t to bytes) same (goes (names (_ ++ more)) (numbers_later _ more p.plan.receivers p.numbers stands.named))
+    subst (λ t. IsRoutedBy (names (log ++ more)) t to bytes) same
+    (goes (names (log ++ more)) (numbers_later log more p.plan.receivers p.numbers stands.named))
 
 -- ---- lawful logs
 

@@ -106,9 +106,14 @@ fn receivers_of<J: Naming>(
     Ok(to)
 }
 
-impl<'a, J: Naming, S: Storage + Drop, R: Wait, C: Clock + Times + Drop, B: Bells>
-    AtLog<'a, J, S, R, C, B>
-{
+impl<'a, J: Naming, S: Storage + Drop, R: Wait, C: Clock + Times + Drop, B: Bells> AtLog<
+    'a,
+    J,
+    S,
+    R,
+    C,
+    B,
+> {
     /// Nothing was accepted yet.
     pub fn new(
         alloc: Global,
@@ -204,10 +209,7 @@ impl<'a, J: Naming, S: Storage + Drop, R: Wait, C: Clock + Times + Drop, B: Bell
         let to = receivers_of(alloc, under, conforming)?;
         self.note_due(&to)?;
         let time = self.clock.time();
-        let put = self
-            .journal
-            .lock(self.rt)
-            .accept(time, under, to, &bytes);
+        let put = self.journal.lock(self.rt).accept(time, under, to, &bytes);
         match put {
             Ok((number, ticket)) => {
                 self.waiting.wait_for(&ticket);
@@ -218,13 +220,29 @@ impl<'a, J: Naming, S: Storage + Drop, R: Wait, C: Clock + Times + Drop, B: Bell
             Err(PutFault::Stale) => Ok(Attempt::Stale(conforming.message().copy(alloc)?)),
             Err(PutFault::Disk) => {
                 self.is_lost = true;
-                Ok(Attempt::Settled(
-                    self.outcome(Reply::Reject(INTERNAL), 0),
-                ))
+                Ok(Attempt::Settled(self.outcome(Reply::Reject(INTERNAL), 0)))
             }
-            Err(_) => Ok(Attempt::Settled(
-                self.outcome(Reply::Reject(INTERNAL), 0),
-            )),
+            Err(_) => Ok(Attempt::Settled(self.outcome(Reply::Reject(INTERNAL), 0))),
+        }
+    }
+
+    // Has a message arrive under a plan.
+    fn try_under(
+        &mut self,
+        alloc: Global,
+        under: &InForce<J>,
+        message: Message,
+    ) -> Result<Attempt, AllocError>
+        ensures ok { IfOk result (Attempts J.before self.old.waiting self.new.waiting message) }
+        ensures err { OnErr result (GoesOn self.old.waiting self.new.waiting) }
+    {
+        self.waiting.see(under.front());
+        match judge_by(alloc, under, message)? {
+            Judgement::Admitted(conforming) => self.arrive(alloc, under, &conforming),
+            Judgement::Refused(why) => {
+                let outcome = self.refuse(why)?;
+                Ok(Attempt::Settled(outcome))
+            }
         }
     }
 
@@ -234,11 +252,7 @@ impl<'a, J: Naming, S: Storage + Drop, R: Wait, C: Clock + Times + Drop, B: Bell
         ensures err { OnErr result (GoesOn self.old.waiting self.new.waiting) }
     {
         let under = self.journal.lock(self.rt).current.again()?;
-        self.waiting.see(under.front());
-        match judge_by(alloc, &under, message)? {
-            Judgement::Admitted(conforming) => self.arrive(alloc, &under, &conforming),
-            Judgement::Refused(why) => Ok(Attempt::Settled(self.refuse(why)?)),
-        }
+        self.try_under(alloc, &under, message)
     }
 
     // Has a message arrive, under the plan in force each time: where it is stale, again, four times at most; then it is rejected.
@@ -270,8 +284,7 @@ impl<'a, J: Naming, S: Storage + Drop, R: Wait, C: Clock + Times + Drop, B: Bell
 }
 
 impl<J: Naming, S: Storage + Drop, R: Wait, C: Clock + Times + Drop, B: Bells> Judge
-    for AtLog<'_, J, S, R, C, B>
-{
+    for AtLog<'_, J, S, R, C, B> {
     ghost use Rattle.gw_gateway.specs.Senders.{Secures, Settles};
     ghost use Rattle.gw_gateway.specs.Waiting.{GoesOn};
 

@@ -1,5 +1,5 @@
 //! What lies under the lock of a gateway's journal.
-ghost use Rattle.std.specs.Prelude.{◌≡◌, ◌↔◌, ◌≤◌, ◌+◌, length, map, IfOk, IfErr, IfSome, IsErrOf, IsNone, IsSome, OnErr, OnOk, Some};
+ghost use Rattle.std.specs.Prelude.{◌≡◌, ◌↔◌, ◌⊎◌, ◌≤◌, ◌+◌, length, map, IfOk, IfErr, IfSome, IsErrOf, IsNone, IsSome, OnErr, OnOk, Some};
 ghost use Rattle.std.specs.Arc.{arc_value};
 ghost use mathlib.Core.List.{IsPrefix};
 ghost use Rattle.gw_due.specs.Events as events;
@@ -66,6 +66,16 @@ fn next_number(receivers: &[Receiver]) -> u32 {
     next
 }
 
+// The number of the receiver of this name, a new one where it has none.
+fn number_for(receivers: &[Receiver], name: &[u8], new: &mut Vec<u32>) -> Result<u32, AllocError> {
+    if let Some(number) = number_of(receivers, name) {
+        return Ok(number);
+    }
+    let number = next_number(receivers);
+    new.push(number)?;
+    Ok(number)
+}
+
 // Gives a receiver of a plan its number, a new one where it has none.
 fn name_one<J: Naming, S: Storage + Drop>(
     ledger: &mut Ledger<J, S, ByPlans>,
@@ -77,19 +87,9 @@ fn name_one<J: Naming, S: Storage + Drop>(
     ensures later { OnOk result (IsPrefix ledger.old.desk.history ledger.new.desk.history) }
     ensures well { OnOk result (IsNone ledger.new.desk.fault) }
 {
-    let known = number_of(ledger.state().receivers(), &receiver.name);
-    let number = match known {
-        Some(number) => number,
-        None => {
-            let number = next_number(ledger.state().receivers());
-            new.push(number)?;
-            number
-        }
-    };
-    match ledger.name(time, number, &receiver.name, &receiver.address) {
-        Ok(_) => Ok(number),
-        Err(fault) => Err(PutFault::from(fault)),
-    }
+    let number = number_for(ledger.state().receivers(), &receiver.name, new)?;
+    let _ticket = ledger.name(time, number, &receiver.name, &receiver.address)?;
+    Ok(number)
 }
 
 // Gives each receiver of a plan its number.

@@ -1,5 +1,5 @@
 //! The plan in force, and the numbers of its receivers.
-ghost use Rattle.std.specs.Prelude.{◌≡◌, IfOk};
+ghost use Rattle.std.specs.Prelude.{◌≡◌, length, IfOk};
 ghost use Rattle.std.specs.Arc.{arc_value};
 
 use gw_journal::{Front, Naming};
@@ -115,7 +115,8 @@ impl<J: Naming> InForce<J> {
 
     /// The numbers of its receivers, in its order.
     pub fn numbers(&self) -> &[u32]
-        ensures { result.now ≡ self.now.numbers }
+        ensures numbers { result.now ≡ self.now.numbers }
+        ensures each { length self.now.numbers ≡ length self.now.plan.receivers }
     {
         &self.numbers
     }

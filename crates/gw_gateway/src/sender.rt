@@ -17,7 +17,15 @@ use std::sync::Wait;
 /// and each record of an AA among them stands in what any crash leaves from then on.
 ///
 /// The faults are those of `answer_blocks`. `Withheld`: the disk failed, so that nothing is known of what was accepted last. It wasn't answered.
-pub fn answer_sender<J: Naming, S: Storage + Drop, R: Wait, C: Clock + Times + Drop, B: Bells, I: Source, W: Sink>(
+pub fn answer_sender<
+    J: Naming,
+    S: Storage + Drop,
+    R: Wait,
+    C: Clock + Times + Drop,
+    B: Bells,
+    I: Source,
+    W: Sink,
+>(
     alloc: Global,
     judge: &mut AtLog<'_, J, S, R, C, B>,
     reader: &mut I,

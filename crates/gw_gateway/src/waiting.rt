@@ -1,8 +1,8 @@
 //! What the answers of a sender wait for.
-ghost use Rattle.std.specs.Prelude.{◌≡◌, ◌<◌, ◌↔◌, IfOk, IfSome, OnOk};
+ghost use Rattle.std.specs.Prelude.{◌≡◌, ◌<◌, ◌+◌, IfSome, None};
 ghost use mathlib.Core.List.{IsPrefix};
 ghost use Rattle.gw_journal.specs.Logs.{Confirms};
-ghost use Rattle.gw_gateway.specs.Waiting.{AllStored, GoesOn, IsPut};
+ghost use Rattle.gw_gateway.specs.Waiting.{AllStored, GoesOn, IsPut, seen_in};
 
 use gw_journal::{Front, Naming, Receipt, Ticket};
 use std::marker::Model;
@@ -25,6 +25,22 @@ impl<J: Naming> Model for Waiting<J> {
     ghost invariant = { λ w. IsWaiting J.before w.front w.last w.waits };
 }
 
+// The longer of two beginnings of the history.
+fn longer<J: Naming>(seen: &Option<Front<J>>, front: &Front<J>) -> Front<J>
+    ensures seen { IsPrefix (seen_in seen.now) result }
+    ensures front { IsPrefix front.now result }
+{
+    match seen {
+        Some(seen) => {
+            if seen.begins(front) {
+                return front.again();
+            }
+            seen.again()
+        }
+        None => front.again(),
+    }
+}
+
 impl<J: Naming> Waiting<J> {
     // Nothing was seen, and nothing is waited for.
     pub(crate) fn new() -> Waiting<J> {
@@ -39,14 +55,9 @@ impl<J: Naming> Waiting<J> {
     pub(crate) fn see(&mut self, front: &Front<J>)
         ensures on { GoesOn self.old self.new }
         ensures seen { IsPrefix front.now self.new.history }
+        ensures upto { self.new.upto ≡ self.old.upto }
     {
-        let longer = match &self.front {
-            Some(mine) => !mine.begins(front),
-            None => false,
-        };
-        if !longer {
-            self.front = Some(front.again());
-        }
+        self.front = Some(longer(&self.front, front));
     }
 
     // Answers wait for this record too.

@@ -6,16 +6,24 @@ use denote.Param.{arg, param}
 use denote.Ref.{NamedLft, ShrRef}
 use denote.Param.Send.{IsSend, IsSync, arg_send, param_send, shr_send, shr_sync, sendable}
 use denote.Param.SendFields.{as_row_send, as_row_sync, declared_send, declared_sync}
-use denote.Struct.Field.{row_field}
+use denote.Struct.Field.{row_field, shr_ref_field}
 use denote.Struct.Tuple.{TupleAt, type_at}
 use base.Fml.{Lft}
 use mathlib.Core.List.{[], ◌∷◌}
 use mir.Syntax.{Lifetime, Sym, Ty}
-use Rattle.std.proofs.Crossing.{crosses, Arc-send}
+use Rattle.std.proofs.Crossing.{crosses}
 use Rattle.std.specs.declared.sync.ledger.Ledger as ledger
 use Rattle.std.proofs.sync.ledger.Share.TheSendSync as share
 use Rattle.std.specs.contracts.net.SocketAddr as SocketAddr
 use Rattle.std.specs.contracts.net.TcpStream as TcpStream
+use Rattle.std.specs.contracts.net.unix.UnixListener as Control
+use Rattle.hl7gate.specs.contracts.gateway.page.Pages as Pages
+use Rattle.core.specs.contracts.atomic.AtomicBool as Flag
+use Rattle.core.specs.contracts.atomic.AtomicU64 as Count
+use Rattle.core.specs.contracts.option.Option as Option
+use Rattle.core.specs.contracts.sync.Mutex as Mutex
+use Rattle.gw_ack.specs.contracts.stamp.Stamp as Stamp
+use Rattle.gw_stream.specs.contracts.fault.RunFault as RunFault
 use Rattle.gw_ack.proofs.stamp.Stamp.TheSendSync as stamp
 use Rattle.gw_gate.proofs.Crossing.{Chapter-send, Gate-send}
 use Rattle.gw_run.proofs.Crossing.{LockedGate-sync, Receipts-send}
@@ -27,9 +35,6 @@ use Rattle.gw_journal.specs.contracts.job.Done as Done
 use Rattle.gw_journal.specs.contracts.job.Job as Job
 use Rattle.gw_journal.specs.declared.book.Naming as naming
 use Rattle.gw_journal.specs.declared.storage.Storage as storage
-use Rattle.std_alloc.specs.contracts.arc.Arc as Arc
-use Rattle.std_heap.specs.contracts.Global as Heap
-use Rattle.std_heap.specs.contracts.GlobalAllocator.TheImpl.{ghosts}
 use Rattle.hl7gate.specs.contracts.gateway.folder.Folder as Folder
 use Rattle.hl7gate.specs.contracts.gateway.hub.Hub as Hub
 use Rattle.hl7gate.specs.contracts.gateway.lines.Line as Waits
@@ -79,15 +84,12 @@ Line-send a = as_row_send (Line.the_field a) (Line-field a)
 Stand-send : IsSend (Stand.the_field).row
 Stand-send = search (crosses, sendable) depth 60 fits 50000
 
-Waits-send : IsSend (Waits.the_field).row
-Waits-send = search (Stand-send, crosses, sendable) depth 60 fits 50000
+-- a receiver's line
+pub Waits-send : IsSend Waits.the_row
+Waits-send = as_row_send Waits.the_field (search (Stand-send, crosses, sendable) depth 60 fits 50000)
 
-Waits-sync : IsSync (Waits.the_field).row
-Waits-sync = search (Stand-send, crosses, sendable) depth 60 fits 50000
-
--- a receiver's line, as its forwarder gets it
-pub Waits-shared : IsSend (Arc.the_row Waits.the_row Heap.the_row ghosts)
-Waits-shared = Arc-send Waits.the_row (as_row_send Waits.the_field Waits-send) (as_row_sync Waits.the_field Waits-sync)
+pub Waits-sync : IsSync Waits.the_row
+Waits-sync = as_row_sync Waits.the_field (search (Stand-send, crosses, sendable) depth 60 fits 50000)
 
 Lines-sync : IsSync (Lines.the_field).row
 Lines-sync = search (Waits-send, Waits-sync, crosses, sendable) depth 60 fits 50000
@@ -101,8 +103,34 @@ Folder-sync = search (crosses, sendable) depth 60 fits 50000
 pub Sender-send : IsSend Sender.the_row
 Sender-send = as_row_send Sender.the_field (search (Stream-send, crosses, sendable) depth 60 fits 50000)
 
+-- where words come in, and who shows the page
+pub Control-shared : (ℓ : Lifetime) (κ : Lft) → IsSend (ShrRef ℓ κ Control.the_row)
+Control-shared ℓ κ = shr_send ℓ κ Control.the_row (as_row_sync Control.the_field (search (crosses, sendable) depth 60 fits 50000))
+
+Pages-one : (ℓ : Lifetime) (κ : Lft) → IsSend (ShrRef ℓ κ Pages.the_row)
+Pages-one ℓ κ = shr_send ℓ κ Pages.the_row (as_row_sync Pages.the_field (search (crosses, sendable) depth 60 fits 50000))
+
+pub Pages-shared : (ℓ : Lifetime) (κ : Lft) → IsSend (Option.the_row (ShrRef ℓ κ Pages.the_row))
+Pages-shared ℓ κ = as_row_send (Option.the_field (ShrRef ℓ κ Pages.the_row)) (search (Pages-one, crosses, sendable) depth 60 fits 50000)
+
+Count-sync : IsSync Count.the_row
+Count-sync = as_row_sync Count.the_field (search (crosses, sendable) depth 60 fits 50000)
+
+Flag-sync : IsSync Flag.the_row
+Flag-sync = as_row_sync Flag.the_field (search (crosses, sendable) depth 60 fits 50000)
+
 Hub-sync : (a : NamedLft) (J S R : RattleType) (j : naming.Ghosts J.Denot) (s : storage.Ghosts S.Denot) → IsSend S → IsSync R → IsSync (Hub.the_row a J S R j s)
-Hub-sync a J S R j s h r = declared_sync (Hub.the_type a J S R j s) ?all
+Hub-sync a J S R j s h r = declared_sync (Hub.the_type a J S R j s) (
+    as_row_sync (row_field (ShrRef a.mir a.lft R)) (shr_sync a.mir a.lft R r),
+    (as_row_sync Stamp.the_field (search (stamp.the_sync, crosses, sendable)),
+    (as_row_sync (shr_ref_field a Folder.the_row tt) (shr_sync a.mir a.lft Folder.the_row (as_row_sync Folder.the_field Folder-sync)),
+    (journal.the_sync J (Office.the_row J S j s) (Job.the_row J S j s) (Done.the_row J S j s) (Office-send J S j s h),
+    (Plans-sync,
+    (as_row_sync Lines.the_field Lines-sync,
+    (as_row_sync Watch.the_field Watch-sync,
+    (Count-sync, (Count-sync, (Count-sync, (Count-sync, (Count-sync, (Count-sync,
+    (Flag-sync, (Flag-sync, (Flag-sync,
+    (as_row_sync (Mutex.the_field (Option.the_row RunFault.the_row)) (search (crosses, sendable) depth 60 fits 50000), tt)))))))))))))))))
 
 -- `&Hub`, as a closure captures it
 pub Hub-shared : (ℓ : Lifetime) (κ : Lft) (a : NamedLft) (J S R : RattleType) (j : naming.Ghosts J.Denot) (s : storage.Ghosts S.Denot)

@@ -24,7 +24,15 @@ pub(crate) struct Opened<K: Summary, D: Disk> {
 }
 
 /// That this was said of the folder at a path.
-fn unlisted<'a, F: Display + Drop>(alloc: Global, path: &str, fault: F) -> Ended<'a> {
+fn unlisted<'a, F: Display + Drop>(
+    alloc: Global,
+    path: &str,
+    fault: F,
+    is_memory: bool,
+) -> Ended<'a> {
+    if is_memory {
+        return Ended::Run(RunFault::Memory);
+    }
     match format!(in alloc; "{path}: {fault}\n{path}: `hl7gate log {path}` says more") {
         Ok(said) => Ended::Unlisted { said },
         Err(_) => Ended::Run(RunFault::Memory),
@@ -36,15 +44,7 @@ fn unopened<'a>(alloc: Global, path: &'a str, fault: OpenFault) -> Ended<'a> {
     match fault {
         OpenFault::Memory => Ended::Run(RunFault::Memory),
         OpenFault::Taken => Ended::Taken { path },
-        fault => unlisted(alloc, path, fault),
-    }
-}
-
-/// What a fault of a log is to who asked.
-fn damaged<'a>(alloc: Global, path: &str, fault: LogFault) -> Ended<'a> {
-    match fault {
-        LogFault::Memory => Ended::Run(RunFault::Memory),
-        fault => unlisted(alloc, path, fault),
+        fault => unlisted(alloc, path, fault, false),
     }
 }
 
@@ -66,16 +66,16 @@ fn open_over<'a, K: Summary, D: Disk + Drop, R: Runtime>(
     let alloc = rt.alloc();
     let (id, disk) = match find_id(alloc, disk) {
         Ok(found) => found,
-        Err(fault) => return Err(damaged(alloc, path, fault)),
+        Err(fault) => return Err(unlisted(alloc, path, fault, fault == LogFault::Memory)),
     };
     let Some(id) = id else {
         return begin(rt, path, disk);
     };
     match Stored::open(alloc, disk, id) {
-        Err((fault, _disk)) => Err(damaged(alloc, path, fault)),
+        Err((fault, _disk)) => Err(unlisted(alloc, path, fault, fault == LogFault::Memory)),
         Ok((stored, last)) => match start(alloc, last.checkpoint(), last.records()) {
             Ok(state) => Ok(Opened { stored, state }),
-            Err(fault) => Err(unlisted(alloc, path, fault)),
+            Err(fault) => Err(unlisted(alloc, path, fault, false)),
         },
     }
 }
@@ -94,7 +94,7 @@ fn begin<'a, K: Summary, D: Disk + Drop, R: Runtime>(
     }
     let id = new_id(rt)?;
     match Stored::create(alloc, disk, id, &checkpoint) {
-        Err((fault, _disk)) => Err(damaged(alloc, path, fault)),
+        Err((fault, _disk)) => Err(unlisted(alloc, path, fault, fault == LogFault::Memory)),
         Ok(stored) => Ok(Opened { stored, state }),
     }
 }
@@ -111,20 +111,22 @@ pub(crate) fn open<'r, 'a, K: Summary, R: Runtime>(
     open_over(rt, path, Recorded::<_, Brand>::new(folder))
 }
 
-/// Why what is left can't be sent.
-fn unsent<'a>(alloc: Global, path: &str, fault: PageFault) -> Ended<'a> {
-    let PageFault::Plan { place } = fault else {
-        return match fault {
-            PageFault::Memory => Ended::Run(RunFault::Memory),
-            fault => unlisted(alloc, path, fault),
-        };
-    };
+/// Why what is left can't be sent: the plan at this place is none to this program.
+fn unreadable<'a>(alloc: Global, path: &str, place: u64) -> Ended<'a> {
     match format!(in alloc;
         "{path}: this hl7gate refuses the plan at place {place} of the log, under which messages wait\n{path}: start the hl7gate that took it, and let it deliver first"
     ) {
         Ok(said) => Ended::Unlisted { said },
         Err(_) => Ended::Run(RunFault::Memory),
     }
+}
+
+/// Why what is left can't be sent.
+fn unsent<'a>(alloc: Global, path: &str, fault: PageFault) -> Ended<'a> {
+    if let PageFault::Plan { place } = fault {
+        return unreadable(alloc, path, place);
+    }
+    unlisted(alloc, path, fault, fault == PageFault::Memory)
 }
 
 /// The text of the plan in force by the log, where it has one. All that is left was looked at: it is under plans that this program takes.
