@@ -37,9 +37,10 @@ def logged(answer):
 
 class Receiver:
     """A receiver that takes one connection after another, and keeps what came. It acknowledges each block by the next of its codes, the last of them for ever.
-    `None` closes the connection instead, and an empty one says nothing."""
+    `None` closes the connection instead, and an empty one says nothing. Where it `closes`, it ends its connection behind each acknowledgment."""
 
-    def __init__(self, codes=(b"AA",), port=0):
+    def __init__(self, codes=(b"AA",), port=0, closes=False):
+        self.closes = closes
         self.codes, self.blocks, self.news, self.held = list(codes), [], threading.Condition(), None
         self.open(port)
 
@@ -90,6 +91,10 @@ class Receiver:
                     if not code:
                         continue
                     line.sendall(b"\x0bMSH|^~\\&|||||||ACK|R|P|2.5.1\rMSA|%s|%s\r\x1c\r" % (code, control(found[0])))
+                    if self.closes:
+                        line.shutdown(socket.SHUT_RDWR)
+                        line.close()
+                        return
 
     def has(self, stated, until):
         with self.news:

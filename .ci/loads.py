@@ -140,8 +140,8 @@ def deaf(gateway, most=3):
             if time.monotonic() - since > most:
                 raise Differs(f"a swap, and an answer, took {time.monotonic() - since:.1f} s")
             same("the answer's code", [b"AA"], re.findall(rb"MSA\|(\w+)\|", answer))
-        gateway.wait("session 2: its sender didn't take an answer in time")
-    gateway.wait("session 2 ended: fault 3: the writer failed")
+        # (its own time ends it, or the system's, whichever is first)
+        gateway.wait("session 2 ended: fault 3: the writer failed")
     gateway.kill()
 
 
@@ -165,6 +165,22 @@ def long_translation(gateway, results=5_000):
     gateway.wait(r"receiver ONE answered AE: the message is at place \d+ of the log in folder")
     same("resend", (0, "resent 1\n"), gateway.tell("resend", "ONE"))
     one.has([*stated, stated[0]], gateway.until)
+    gateway.kill()
+
+
+def large_translation(gateway, size=900_000):
+    """A translation that is longer than a message may be is sent, and again once its receiver has refused it."""
+    one = Receiver(codes=[b"AE", b"AA"])
+    gateway.receivers = {"ONE": one}
+    (gateway.room / "plan").write_text(plan_for({"ONE": one.address}, items=COPY.replace("copy 3 from MSH-3", "copy 3 from MSH-8") + "drop MSH-3\n"))
+    gateway.start()
+    bulk = b"x" * size
+    same("the code", [b"AA"], [re.search(rb"MSA\|(\w+)", it)[1] for it in gateway.ask([message(b"LARGE", bulk=bulk)])])
+    stated = message(b"LARGE", sender=bulk, bulk=bulk)
+    one.has([stated], gateway.until)
+    gateway.wait(r"receiver ONE answered AE: the message is at place \d+ of the log in folder")
+    same("resend", (0, "resent 1\n"), gateway.tell("resend", "ONE"))
+    one.has([stated, stated], gateway.until)
     gateway.kill()
 
 

@@ -11,7 +11,7 @@ import time
 from disks import NOW, begun, lay, report
 from gateway import REPORT, Receiver, control
 from loads import message, plan_for, routed
-from log_files import TAKEN, accepted, again, chain, passed, planned, refused
+from log_files import TAKEN, accepted, again, chain, margin, name, named, passed, planned, refused, state
 from loopback import ANSWERS, LEFT, MESSAGES, Differs, same
 from preload import library_in
 
@@ -142,38 +142,48 @@ def moved_on(gateway, each=100):
     gateway.kill()
 
 
-def lies_refused(gateway):
-    """Files whose messages all were passed are taken away when the next file is begun, but for those of what lies refused, and their plans."""
-    # (a file is ended at 64 MB: large messages, of which one is refused)
-    one = Receiver(codes=[b"AA", b"AE", b"AA"])
-    gateway.until += 120
+def rests(gateway, seconds=6):
+    """Waits until the gateway has used hardly any processor time for so long."""
+    used = lambda: sum(map(int, open(f"/proc/{gateway.process.pid}/stat").read().rsplit(") ", 1)[1].split()[11:13]))
+    before, now = -9, used()
+    while now - before > 4 and time.monotonic() < gateway.until:
+        time.sleep(seconds)
+        before, now = now, used()
+
+
+def lies_refused(gateway, large=66, limit=67_108_864):
+    """A file is taken away when the next is begun, if all its messages were passed. One stays that has what lies refused, until that came again and was taken."""
+    gateway.until += 180
+    one = Receiver()
     gateway.receivers = {"ONE": one}
     (gateway.room / "plan").write_text(plan_for({"ONE": one.address}))
-    gateway.start()
-    line, bulk = gateway.client(), b"x" * 1_000_000
-    files = lambda: sorted(int(it.name.split(".")[0]) for it in gateway.folder.glob("*.segment"))
-
-    def send_file(tag):
-        for at in range(68):
-            same("an answer", [b"AA"], codes(line.ask([message(b"%s%d" % (tag, at), bulk=bulk)])))
-        # (so that all are passed, and the files have been looked at)
-        same("what waits", [0], gateway.once([0], gateway.waiting))
-        time.sleep(6)
-
-    send_file(b"A")
-    send_file(b"B")
-    same("files, while one lies refused in the first", [1, 2, 3], files())
-    same("resend", (0, "resent 1\n"), gateway.tell("resend", "ONE"))
-    same("what waits", [0], gateway.once([0], gateway.waiting))
-    time.sleep(6)
-    send_file(b"C")
-    if 1 in files():
-        raise Differs(f"the first file is still there: {files()}")
-    same("how many came", 68 * 3 + 1, len(one.blocks))
-    same("what came again", b"A1", control(one.blocks[68 * 2]))
-    gateway.kill()
-    gateway.start()
-    gateway.kill()
+    text, address = (gateway.room / "plan").read_bytes(), one.address.encode()
+    content = lambda size=0: message(b"BULK", bulk=b"x" * size)[1:-2]
+    plan, bulk = planned(NOW, text), content(1_000_000)
+    first = [named(NOW, 1, b"ONE", address), plan, margin(NOW, 10_001), accepted(NOW, 1, [1], content()), passed(NOW, 1, 3, TAKEN)]
+    second = [plan, accepted(NOW, 2, [1], content()), passed(NOW, 1, 6, refused(1, b""))]
+    checkpoints = {2: state(5, [(1, b"ONE", address, 4)], plan=1, last=1, below=10_001), 3: state(8, [(1, b"ONE", address, 7, 0, 1)], plan=5, last=2, below=10_001)}
+    for what, third, stated in (
+        ("one lies refused in the second", [plan], [2, 3, 4]),
+        ("it came again, and was taken", [plan, again(NOW, 1, 6), passed(NOW, 1, 9, TAKEN)], [3, 4]),
+    ):
+        one.close()
+        one.blocks.clear()
+        for at in range(large):
+            third = [*third, accepted(NOW, 3 + at, [1], bulk), passed(NOW, 1, 8 + len(third), TAKEN)]
+        # (the last file is nearly as long as one may be: the start's plan fits, and behind the next messages another file is begun)
+        with_last = lambda size: chain([first, second, [*third, accepted(NOW, 3 + large, [1], content(size)), passed(NOW, 1, 8 + len(third), TAKEN)]], checkpoints=checkpoints)
+        lay(gateway, with_last(limit - 1_200 - len(with_last(0)[name(3)])))
+        gateway.start()
+        # (so that the files have been looked at)
+        rests(gateway)
+        sent = [message(b"LAST%02d" % at) for at in range(12)]
+        same(f"{what}: answers", [b"AA"] * 12, codes(gateway.ask(sent)))
+        files = lambda: sorted(int(it.name.split(".")[0]) for it in gateway.folder.glob("*.segment"))
+        same(f"{what}: which files the log has", stated, gateway.once(stated, files))
+        one.open(one.port)
+        one.has(sent, gateway.until)
+        gateway.kill()
 
 
 def by_run(gateway):

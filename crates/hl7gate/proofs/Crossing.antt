@@ -121,16 +121,54 @@ Flag-sync = as_row_sync Flag.the_field (search (crosses, sendable) depth 60 fits
 
 Hub-sync : (a : NamedLft) (J S R : RattleType) (j : naming.Ghosts J.Denot) (s : storage.Ghosts S.Denot) → IsSend S → IsSync R → IsSync (Hub.the_row a J S R j s)
 Hub-sync a J S R j s h r = declared_sync (Hub.the_type a J S R j s) (
-    as_row_sync (row_field (ShrRef a.mir a.lft R)) (shr_sync a.mir a.lft R r),
-    (as_row_sync Stamp.the_field (search (stamp.the_sync, crosses, sendable)),
-    (as_row_sync (shr_ref_field a Folder.the_row tt) (shr_sync a.mir a.lft Folder.the_row (as_row_sync Folder.the_field Folder-sync)),
-    (journal.the_sync J (Office.the_row J S j s) (Job.the_row J S j s) (Done.the_row J S j s) (Office-send J S j s h),
-    (Plans-sync,
-    (as_row_sync Lines.the_field Lines-sync,
-    (as_row_sync Watch.the_field Watch-sync,
-    (Count-sync, (Count-sync, (Count-sync, (Count-sync, (Count-sync, (Count-sync,
-    (Flag-sync, (Flag-sync, (Flag-sync,
-    (as_row_sync (Mutex.the_field (Option.the_row RunFault.the_row)) (search (crosses, sendable) depth 60 fits 50000), tt)))))))))))))))))
+  as_row_sync (row_field (ShrRef a.mir a.lft R)) (shr_sync a.mir a.lft R r),
+  (
+    as_row_sync Stamp.the_field (search (stamp.the_sync, crosses, sendable)),
+    (
+      as_row_sync (shr_ref_field a Folder.the_row tt) (shr_sync a.mir a.lft Folder.the_row (as_row_sync Folder.the_field Folder-sync)),
+      (
+        journal.the_sync J (Office.the_row J S j s) (Job.the_row J S j s) (Done.the_row J S j s) (Office-send J S j s h),
+        (
+          Plans-sync,
+          (
+            as_row_sync Lines.the_field Lines-sync,
+            (
+              as_row_sync Watch.the_field Watch-sync,
+              (
+                Count-sync,
+                (
+                  Count-sync,
+                  (
+                    Count-sync,
+                    (
+                      Count-sync,
+                      (
+                        Count-sync,
+                        (
+                          Count-sync,
+                          (
+                            Flag-sync,
+                            (
+                              Flag-sync,
+                              (
+                                Flag-sync,
+                                (as_row_sync (Mutex.the_field (Option.the_row RunFault.the_row)) (search (crosses, sendable) depth 60 fits 50000), tt),
+                              ),
+                            ),
+                          ),
+                        ),
+                      ),
+                    ),
+                  ),
+                ),
+              ),
+            ),
+          ),
+        ),
+      ),
+    ),
+  ),
+)
 
 -- `&Hub`, as a closure captures it
 pub Hub-shared : (ℓ : Lifetime) (κ : Lft) (a : NamedLft) (J S R : RattleType) (j : naming.Ghosts J.Denot) (s : storage.Ghosts S.Denot)

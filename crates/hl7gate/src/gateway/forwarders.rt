@@ -300,7 +300,7 @@ fn forward_by<
         return false;
     };
     // (what is left from before the start may have been sent then)
-    let sent = Cell::new(hub.left_for(line.number) > 0);
+    let sent = Cell::new(hub.taken.load(Ordering::SeqCst) == 0 && hub.left_for(line.number) > 0);
     let here = Here {
         hub,
         line,

@@ -24,7 +24,15 @@ pub(crate) struct Opened<K: Summary, D: Disk> {
 }
 
 /// That this was said of the folder at a path.
-fn unlisted<'a, F: Display + Drop>(alloc: Global, path: &str, fault: F) -> Ended<'a> {
+fn unlisted<'a, F: Display + Drop>(
+    alloc: Global,
+    path: &str,
+    fault: F,
+    is_memory: bool,
+) -> Ended<'a> {
+    if is_memory {
+        return Ended::Run(RunFault::Memory);
+    }
     match format!(in alloc; "{path}: {fault}\n{path}: `hl7gate log {path}` says more") {
         Ok(said) => Ended::Unlisted { said },
         Err(_) => Ended::Run(RunFault::Memory),
@@ -36,16 +44,8 @@ fn unopened<'a>(alloc: Global, path: &'a str, fault: OpenFault) -> Ended<'a> {
     match fault {
         OpenFault::Memory => Ended::Run(RunFault::Memory),
         OpenFault::Taken => Ended::Taken { path },
-        fault => unlisted(alloc, path, fault),
+        fault => unlisted(alloc, path, fault, false),
     }
-}
-
-/// What a fault of a log is to who asked.
-fn damaged<'a>(alloc: Global, path: &str, fault: LogFault) -> Ended<'a> {
-    if fault == LogFault::Memory {
-        return Ended::Run(RunFault::Memory);
-    }
-    unlisted(alloc, path, fault)
 }
 
 /// A number for a new log.
@@ -66,16 +66,16 @@ fn open_over<'a, K: Summary, D: Disk + Drop, R: Runtime>(
     let alloc = rt.alloc();
     let (id, disk) = match find_id(alloc, disk) {
         Ok(found) => found,
-        Err(fault) => return Err(damaged(alloc, path, fault)),
+        Err(fault) => return Err(unlisted(alloc, path, fault, fault == LogFault::Memory)),
     };
     let Some(id) = id else {
         return begin(rt, path, disk);
     };
     match Stored::open(alloc, disk, id) {
-        Err((fault, _disk)) => Err(damaged(alloc, path, fault)),
+        Err((fault, _disk)) => Err(unlisted(alloc, path, fault, fault == LogFault::Memory)),
         Ok((stored, last)) => match start(alloc, last.checkpoint(), last.records()) {
             Ok(state) => Ok(Opened { stored, state }),
-            Err(fault) => Err(unlisted(alloc, path, fault)),
+            Err(fault) => Err(unlisted(alloc, path, fault, false)),
         },
     }
 }
@@ -94,7 +94,7 @@ fn begin<'a, K: Summary, D: Disk + Drop, R: Runtime>(
     }
     let id = new_id(rt)?;
     match Stored::create(alloc, disk, id, &checkpoint) {
-        Err((fault, _disk)) => Err(damaged(alloc, path, fault)),
+        Err((fault, _disk)) => Err(unlisted(alloc, path, fault, fault == LogFault::Memory)),
         Ok(stored) => Ok(Opened { stored, state }),
     }
 }
@@ -123,13 +123,10 @@ fn unreadable<'a>(alloc: Global, path: &str, place: u64) -> Ended<'a> {
 
 /// Why what is left can't be sent.
 fn unsent<'a>(alloc: Global, path: &str, fault: PageFault) -> Ended<'a> {
-    if fault == PageFault::Memory {
-        return Ended::Run(RunFault::Memory);
-    }
     if let PageFault::Plan { place } = fault {
         return unreadable(alloc, path, place);
     }
-    unlisted(alloc, path, fault)
+    unlisted(alloc, path, fault, fault == PageFault::Memory)
 }
 
 /// The text of the plan in force by the log, where it has one. All that is left was looked at: it is under plans that this program takes.

@@ -63,8 +63,9 @@ fn take<J: Naming, S: Storage + Drop, R: Runtime + Wait>(
     if hub.journal.settle(hub.rt, &ticket).is_err() {
         return Err(PutFault::Disk);
     }
+    let taken = hub.taken.fetch_add(1, Ordering::SeqCst);
     begin_lines(hub)?;
-    Ok(hub.taken.fetch_add(1, Ordering::SeqCst).saturating_add(1))
+    Ok(taken.saturating_add(1))
 }
 
 /// The plan of a file, which has to be a regular one: a pipe would be waited for.

@@ -74,7 +74,6 @@ fn receiver_json<R: Clock + AllocGlobal>(rt: &R, shown: &Shown) -> Result<String
         refused,
         ..
     } = shown;
-    // (a name is letters, digits and `_`)
     let name = line.name.escape_ascii();
     let (is_held, is_connected) = (stand.is_held, stand.is_connected);
     let (stuck, taken) = (stand.stuck(rt), stand.aa);

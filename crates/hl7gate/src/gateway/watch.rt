@@ -81,8 +81,7 @@ impl Watch {
         if refusals.last.len() >= LAST {
             let _oldest = refusals.last.pop_front();
         }
-        // (there is room for it)
-        let _ = refusals.last.push_back(refusal);
+        let _kept = refusals.last.push_back(refusal);
     }
 
     /// How many messages were refused.
