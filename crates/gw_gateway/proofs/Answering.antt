@@ -14,7 +14,7 @@ use Rattle.gw_stream.specs.declared.judge.Outcome.{Outcome}
 use Rattle.gw_stream.specs.Answers.{Answer, IsSettled, Message}
 use Rattle.gw_stream.specs.Exchanges as stream
 use Rattle.gw_stream.specs.Exchanges.{Exchange, AllExchanged, Begins, Closes, Exchanges, SomeExchanged, EndsExchanged, content_of}
-use Rattle.gw_stream.specs.Streams.{Ends, HasFirst}
+use Rattle.gw_stream.specs.Streams.{HasFirst}
 use Rattle.gw_stream.specs.Streams as streams
 use Rattle.gw_gateway.specs.Senders.{Answers, AnswersAll, AnswersFirst, AreKept, HasRecord, IsJudged, IsKept, IsPlanned, IsSaid, Secures, Settles}
 use Rattle.gw_gateway.specs.Senders as senders

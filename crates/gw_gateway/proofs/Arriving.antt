@@ -20,12 +20,12 @@ use Rattle.gw_stream.specs.Answers.{Message}
 use Rattle.gw_stream.specs.Served.{SaidBy}
 use Rattle.gw_validate.specs.declared.breach.Breach.{Breach}
 use Rattle.gw_gateway.specs.Plans.{IsPlan, PlanState}
-use Rattle.gw_gateway.specs.Senders.{HasRecord, IsJudged, IsPlanned, IsSaid, Settles}
+use Rattle.gw_gateway.specs.Senders.{HasRecord, IsJudged, Settles}
 use Rattle.gw_gateway.specs.Senders as senders
 use Rattle.gw_gateway.specs.Waiting.{GoesOn, IsAwaited, WaitState}
 use Rattle.gw_gateway.specs.declared.judge.Attempt.{Attempt}
 use Rattle.gw_gateway.specs.declared.judge.Attempt.TheVariants as attempt
-use Rattle.gw_gateway.specs.own.Steps.{Arrives, Attempts, IsArrival, IsTaken, Says}
+use Rattle.gw_gateway.specs.own.Steps.{Arrives, Attempts, IsArrival, Says}
 use Rattle.gw_gateway.specs.own.Steps as steps
 use Rattle.gw_gateway.proofs.Answering.{judged_later}
 use Rattle.gw_gateway.proofs.Joining.{goes_both, stays}
@@ -107,11 +107,6 @@ pub settles_unsettled : (before : List (List ℕ)) (s t : WaitState) (what : Opt
     → Settles before s t what number reply
 settles_unsettled before s t what number reply on same =
     subst (λ r. Settles before s t what number r) (sym same) (record { on = on; said = senders.unsettled what number })
-
--- it goes on from an earlier state
-pub settles_from : (before : List (List ℕ)) (s mid t : WaitState) (what : Option Message) (number : ℕ) (reply : Reply) → GoesOn s mid → Settles before mid t what number reply
-    → Settles before s t what number reply
-settles_from before s mid t what number reply first settles = record { on = goes_both s mid t first settles.on; said = settles.said }
 
 pub arrived_so : (before : List (List ℕ)) (s mid w t : WaitState) (m : Message) (n number time : ℕ) (reply : Reply) (to bytes : List ℕ) (ticket : TicketState)
     → mid ≡ s → GoesOn mid w → t ≡ w → IsPrefix ticket.history w.history → ticket.place < w.upto → bytes ≡ written m

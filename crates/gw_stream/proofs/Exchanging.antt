@@ -1,5 +1,5 @@
 -- Exchanges, seen through what their judge keeps.
-use Rattle.std.proofs.Common.{◌≡◌, ℕ, ◌+◌, List, Option, length, Result, ap, sym, subst}
+use Rattle.std.proofs.Common.{ℕ, ◌+◌, List, Option, length, Result, ap, sym, subst}
 use Rattle.gw_mllp.specs.Stream.{Tail}
 use Rattle.gw_stream.specs.declared.counts.Counts.{Counts}
 use Rattle.gw_stream.specs.declared.fault.RunFault.{RunFault}

@@ -44,12 +44,6 @@ module _ {S : Type 0} (Secures Withholds : S → S → Type 0) (old new : S) whe
   last_not_read before after bytes _ _ (cut secures part) is = search rules
   last_not_read before after bytes _ _ (held holds same) is = search rules
 
-  pub last_withheld : (before after : Option (List ℕ)) (bytes : List ℕ) (failed : Bool) (fault : RunFault)
-      → SentAtLast Secures Withholds old new before after bytes failed fault → fault ≡ Withheld → Withholds old new
-  last_withheld before after bytes _ _ (sent secures all) is = absurd (cc is)
-  last_withheld before after bytes _ _ (cut secures part) is = absurd (cc is)
-  last_withheld before after bytes _ _ (held holds same) is = holds
-
 pub stops_not_withheld : (here there : Place) (fault : RunFault) → Stops here there fault → fault ≡ Withheld → ⊥
 stops_not_withheld here there _ stops.memory is = search rules
 stops_not_withheld here there _ stops.read is = search rules

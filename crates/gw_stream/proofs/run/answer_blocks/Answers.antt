@@ -1,9 +1,9 @@
-use Rattle.std.proofs.Common.{◌≡◌, ◌+◌, rules, arith, refl, ap, ◌∙◌}
+use Rattle.std.proofs.Common.{◌≡◌, ◌+◌, rules, arith, ap, ◌∙◌}
 use Rattle.gw_stream.specs.Streams.{at_end}
 use Rattle.gw_stream.proofs.Counting.{one_more}
 use Rattle.gw_stream.proofs.Gathering.{all_sent, gathers_begin, gathers_go, gathers_sent, gathers_unsent, gathers_withheld, gathers_cut, stop_sent}
 use Rattle.gw_stream.proofs.Gathering.{gathers_room, last_not_read, stops_not_withheld}
-use Rattle.gw_stream.proofs.Walking.{goes_nowhere, stops_turns}
+use Rattle.gw_stream.proofs.Walking.{stops_turns}
 use Rattle.gw_stream.proofs.run.answer_blocks.Goals as goal
 
 pub each-init : goal.each-init
