@@ -1,7 +1,7 @@
 -- A forwarder's records, as what was due to a receiver.
 use Rattle.std.proofs.Common.{◌≡◌, ◌≤◌, ◌+◌, ℕ, Bool, true, false, List, ◌++◌, Option, Some, refl, ap, sym, subst, ◌∙◌}
 use Rattle.std.specs.Io.KnownBytes.{Appends}
-use Rattle.std.specs.Prelude.{IfSome}
+use Rattle.std.specs.Prelude.{IfSome, IfOk, OnOk, Result, Ok, Err}
 use Rattle.gw_ack.specs.declared.receipt.Ack.{Ack}
 use Rattle.gw_mllp.specs.Stream.{block}
 use Rattle.gw_forward.specs.declared.outbox.Outbox as outbox
@@ -86,3 +86,13 @@ module _ {O : Type 0} (of : outbox.Ghosts O) (see : O → WaitingState) (before 
                 (one_again g.given.of (subst (λ o. IsDue before (see from).receiver (see from).name o g.given.of) (sym place) due));
             wrote = wrote;
           }
+
+pub on_delivered : {E O : Type 0} (of : outbox.Ghosts O) (r : Result Ended E) (stream had has : Option (List ℕ)) (from to : O)
+    → IfOk r (Forwards of stream had has from to) → (see : O → WaitingState) (before : List (List ℕ))
+    → ((s t : O) (bytes : List ℕ) → of.gives s t bytes → Gives before (see s) (see t) bytes)
+    → ((s t : O) → of.closes s t → Stays (see s) (see t))
+    → ((s t : O) (ack : Ack) (taken : Bool) → of.settles s t ack taken → Settles before (see s) (see t) ack taken)
+    → OnOk r (HasDelivered before (see from) (see to) had has)
+on_delivered of (Ok ended) stream had has from to f see before gives closes settles =
+    has_delivered of see before gives closes settles stream had has from to ended f
+on_delivered of (Err fault) stream had has from to f see before gives closes settles = tt

@@ -1,5 +1,4 @@
 pub mod Crossing
 pub mod Seeing
 pub mod Making
-pub mod Passing
 pub mod Delivering
