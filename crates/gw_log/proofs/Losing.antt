@@ -1,6 +1,8 @@
 -- No byte of a counted item is lost unseen.
 use Rattle.std.proofs.Common.{◌≡◌, ◌≢◌, ◌⊎◌, inl, inr, ⊎_elim, refl, ℕ, zero, suc, ◌+◌, ◌-◌, ◌*◌, ◌<◌, ◌≤◌, ◌^◌, List, [], ◌∷◌, ◌++◌, length, take, get_or, sym, ◌∙◌, ap, subst, arith, append_assoc, length-append}
-use Rattle.std.specs.Int.{w32, w64, to_be_bytes, from_be_bytes}
+use Rattle.std.proofs.Math.Dec.{eqb-suc-zero}
+use Rattle.std.specs.Prelude.{Bool, not, nat_eq}
+use Rattle.std.specs.Int.{w32, w64, to_be_bytes, from_be_bytes, from_bool}
 use Rattle.std.proofs.lemmas.Nat.{from_be_bytes-to_be_bytes_4, from_be_bytes-to_be_bytes_8}
 use Rattle.std.proofs.lemmas.List.{take_more}
 use Rattle.gw_log.specs.Disk.{IsMixed}
@@ -65,10 +67,22 @@ nonzero-le [] = omega arith
 nonzero-le (zero ∷ a) = omega (arith, nonzero-le a)
 nonzero-le (suc c ∷ a) = omega (arith, nonzero-le a)
 
+one_more : (v : ℕ) → from_bool (not (nat_eq v 0)) ≡ nonzero (v ∷ [])
+one_more zero = refl
+one_more (suc n) = ap (λ (b : Bool). from_bool (not b)) (eqb-suc-zero n)
+
+one_le : (v : ℕ) → nonzero (v ∷ []) ≤ 1
+one_le zero = omega arith
+one_le (suc n) = omega arith
+
 -- with one byte more
-pub count_more : (xs : List ℕ) (i v : ℕ) → i < length xs → v ≡ get_or xs i v → nonzero (take (i + 1) xs) ≡ nonzero (take i xs) + nonzero (v ∷ [])
-count_more xs i v lt at =
-    ap nonzero (take_more xs i v lt) ∙ nonzero-append (take i xs) (get_or xs i v ∷ []) ∙ ap (λ (n : ℕ). nonzero (take i xs) + nonzero (n ∷ [])) (sym at)
+pub counted_step : (xs : List ℕ) (i n k d : ℕ) → i < length xs → n ≡ nonzero (take i xs) → n ≤ i → k ≡ from_bool (not (nat_eq (get_or xs i d) 0))
+    → (n + k ≡ nonzero (take (i + 1) xs)) × (n + k ≤ i + 1)
+counted_step xs i n k d lt is few one =
+    let more : nonzero (take (i + 1) xs) ≡ nonzero (take i xs) + nonzero (get_or xs i d ∷ []) =
+    ap nonzero (take_more xs i d lt) ∙ nonzero-append (take i xs) (get_or xs i d ∷ []) in
+    let k_is : k ≡ nonzero (get_or xs i d ∷ []) = one ∙ one_more (get_or xs i d) in
+    (omega (arith, more, is, k_is), omega (arith, few, k_is, one_le (get_or xs i d)))
 
 -- ---- numbers of which bytes were lost
 

@@ -8,7 +8,7 @@ use Rattle.std.proofs.lemmas.List.{append-nil, take_more, map-append}
 use Rattle.gw_log.specs.Disk.{Files, Changes, IsWritten, Torn, Cut, After, Follows, Only, LeavesOnly}
 use Rattle.gw_log.specs.File.{item, body, blocks, batch, AreShort, Has, HasAs, HasEither, HasOrIs}
 use Rattle.gw_log.specs.State.{staged, IsStaged, Stands, SegmentState, records_of}
-use Rattle.gw_log.specs.own.Steps.{BeginsStaged, HasAdded, UpTo}
+use Rattle.gw_log.specs.own.Steps.{BeginsStaged, HasAdded, UpTo, IsAtRest}
 use Rattle.gw_log.proofs.Losing.{mixed_all}
 use Rattle.gw_log.proofs.Moments.{only_of, weaker}
 use Rattle.gw_log.proofs.Ends.{blocks-append, short-append}
@@ -185,6 +185,13 @@ file_left seen may_leave moment left_since s new number records more st run =
     (λ c changes. changed number (HasAdded 2 (st.these ++ st.last) more) (HasEither (st.these ++ st.last) ((st.these ++ st.last) ++ more)) (seen s.disk) c
     (added_either (st.these ++ st.last) more) changes) run)
 
+-- nothing was done
+pub file_stood : {D : Type 0} (seen : D → Files) (may_leave : D → Files → Type 0) (s : SegmentState D) (records more : List (List ℕ))
+    → Stands seen may_leave s records → (c : Files) → may_leave s.disk c → Changes s.number (HasEither records (records ++ more)) (seen s.disk) c
+file_stood seen may_leave s records more st c could =
+    unmoved s.number (HasEither records (records ++ more)) (seen s.disk) c (may_leave s.disk) st.staged.durable
+    (inl (has_stands seen may_leave s records st (seen s.disk s.number) refl)) could
+
 -- ---- the end of a file is opened
 
 module _ {D : Type 0} (seen : D → Files) (may_leave : D → Files → Type 0) (disk : D) (number end reach : ℕ) (these last : List (List ℕ))
@@ -196,18 +203,18 @@ module _ {D : Type 0} (seen : D → Files) (may_leave : D → Files → Type 0) 
 
   pub settled : (new : D) → Changes number (IsWritten end (1 ∷ []) (seen disk number)) (seen disk) (seen new)
       → Follows number (Torn end (1 ∷ [])) (may_leave disk) (may_leave new) → ((c : Files) → may_leave new c → c number ≡ seen new number)
-      → IsStaged seen may_leave 0 new number reach reach (these ++ last) []
+      → IsAtRest seen may_leave new number (these ++ last)
   settled new wrote crash synced = record {
-    gate = 0;
-    shut = omega arith;
     file = end_done st.gate these last end reach st.ends st.reaches st.shut st.short st.fits some (seen disk number) (seen new number) st.file wrote.here;
-    short = short-append these last st.short st.fits;
-    fits = tt;
-    ends = new_end st.gate 0 these last end reach st.ends st.reaches;
-    reaches = omega arith;
     durable = only_of number (seen disk) (seen new) (may_leave new)
         (λ c may m differs. (crash c may).moves.others m differs ∙ st.durable (crash c may).was (crash c may).could m) wrote.others synced;
   }
+
+pub from_none : {D : Type 0} (seen : D → Files) (may_leave : D → Files → Type 0) (disk : D) (number size : ℕ) (records : List (List ℕ))
+    → IsStaged seen may_leave 2 disk number 0 (0 + size) [] records → IsStaged seen may_leave 2 disk number 0 size [] records
+from_none seen may_leave disk number size records st =
+    let same : 0 + size ≡ size = omega arith in
+    subst (λ n. IsStaged seen may_leave 2 disk number 0 n [] records) same st
 
 -- ---- reading and repair
 

@@ -8,7 +8,7 @@ use Rattle.gw_log.specs.File.{item, body, blocks, batch, AreShort, Has, HasEithe
 use Rattle.gw_log.specs.State.{at_rest, IsStaged, Stands, SegmentState}
 use Rattle.gw_log.specs.Chain.{Head, spelled, IsWide, IsEnded, Follows, AreBefore, none, more, IsUnborn, Origin, IsLog, LogState, Holds, LeavesGoing, next_head}
 use Rattle.gw_log.specs.own.Turns.{Turns, IsNext, HasTurned}
-use Rattle.gw_log.specs.own.Steps.{HasAdded}
+use Rattle.gw_log.specs.own.Steps.{HasAdded, IsAtRest}
 use Rattle.gw_log.proofs.Crash.{new_end}
 use Rattle.gw_log.proofs.Batches.{has_unsynced}
 use Rattle.gw_log.proofs.Sound.{ends_old}
@@ -222,15 +222,15 @@ pub closes_at : (number : ℕ) (these those next : List (List ℕ)) (old mid las
 closes_at number these those next old mid last c all begun same others changes =
     closes number these next old mid begun same last c others (subst (λ l. Changes number (HasOrIs l (l ++ [] ∷ [])) last c) (sym all) changes)
 
-pub has_turned : {D : Type 0} (seen : D → Files) (may_leave : D → Files → Type 0) (old new : SegmentState D) (begun closed : D) (size reach : ℕ) (these those next : List (List ℕ))
+pub has_turned : {D : Type 0} (seen : D → Files) (may_leave : D → Files → Type 0) (old new : SegmentState D) (begun closed : D) (size : ℕ) (these those next : List (List ℕ))
     → IsStaged seen may_leave 2 begun (old.number + 1) 0 size [] next → ((m : ℕ) → m ≢ old.number + 1 → seen begun m ≡ seen old.disk m)
     → ((m : ℕ) → m ≢ old.number → seen closed m ≡ seen begun m) → ((m : ℕ) → m ≢ old.number → seen new.disk m ≡ seen closed m)
-    → these ≡ those → IsStaged seen may_leave 0 new.disk old.number reach reach (those ++ [] ∷ []) [] → HasTurned seen may_leave old new size these next
-has_turned seen may_leave old new begun closed size reach these those next staged_next first second third all at_end =
-    let far : old.number + 1 ≢ old.number = λ is. omega (arith, is) in
+    → these ≡ those → IsAtRest seen may_leave new.disk old.number (those ++ [] ∷ []) → HasTurned seen may_leave old new size these next
+has_turned seen may_leave was new begun closed size these those next staged_next first second third all at_end =
+    let far : was.number + 1 ≢ was.number = λ is. omega (arith, is) in
     record {
-      begun = moved_staged seen may_leave begun new.disk (old.number + 1) 0 size [] next staged_next
-          (third (old.number + 1) far ∙ second (old.number + 1) far) at_end.durable;
+      begun = moved_staged seen may_leave begun new.disk (was.number + 1) 0 size [] next staged_next
+          (third (was.number + 1) far ∙ second (was.number + 1) far) at_end.durable;
       ended = record {
         file = at_end.file ∙ ap (λ (l : List (List ℕ)). at_rest (l ++ [] ∷ [])) (sym all);
         others = λ m one two. third m one ∙ second m one ∙ first m two;
@@ -240,7 +240,7 @@ has_turned seen may_leave old new begun closed size reach these those next stage
 -- nothing was done yet
 pub turns_none : (number : ℕ) (these next : List (List ℕ)) (old c : Files) → Has these (old number) → old (number + 1) ≡ [] → ((m : ℕ) → c m ≡ old m)
     → Turns number these next old c
-turns_none number these next old c has empty same = record {
+turns_none number these next before c has empty same = record {
   others = λ m one two. same m;
   either = inl (subst (Has these) (sym (same number)) has, inl (has_unsynced [] [] (c (number + 1)) tt tt (same (number + 1) ∙ empty)));
 }

@@ -15,6 +15,18 @@ use crate::fault::LogFault;
 use crate::writing::{COUNT, LENGTH, OPEN, SHUT, count_nonzero};
 use std::alloc::{AllocError, Global};
 
+// What stands behind this gate.
+fn behind(gate: u8, bytes: &[u8]) -> Option<&[u8]>
+    ensures some { IfSome result (λ rest. bytes.now ≡ gate ∷ rest.now) }
+    ensures none { IfNone result ((rest : List ℕ) → bytes.now ≡ gate ∷ rest → ⊥) }
+{
+    let (first, rest) = bytes.split_first()?;
+    if *first != gate {
+        return None;
+    }
+    Some(rest)
+}
+
 // The count before an item, and what stands behind it.
 fn count_at(bytes: &[u8]) -> (u64, &[u8])
     requires { 8 ≤ length bytes.now }
@@ -28,6 +40,17 @@ fn count_at(bytes: &[u8]) -> (u64, &[u8])
     (count, rest)
 }
 
+// The length before an item, and what stands behind it.
+fn size_at(bytes: &[u8]) -> (u32, &[u8])
+    requires { 4 ≤ length bytes.now }
+    ensures whole { bytes.now ≡ to_be_bytes w32 result.0 ++ result.1.now }
+    ensures rest { length bytes.now ≡ length result.1.now + 4 }
+{
+    let (front, rest) = bytes.split_at(LENGTH);
+    let size = u32::from_be_bytes([front[0], front[1], front[2], front[3]]);
+    (size, rest)
+}
+
 // The first item, whose count has to be right, and what stands behind it. The bytes are those behind a gate.
 fn first_item(bytes: &[u8]) -> Option<(&[u8], &[u8])>
     ensures some { IfSome result (λ p. BeginsItem bytes.now p.0.now p.1.now) }
@@ -36,16 +59,17 @@ fn first_item(bytes: &[u8]) -> Option<(&[u8], &[u8])>
     if bytes.len() < COUNT + LENGTH {
         return None;
     }
-    let (count, rest) = count_at(bytes);
-    let size = u32::from_be_bytes([rest[0], rest[1], rest[2], rest[3]]) as usize;
-    if rest.len() - LENGTH < size {
+    let (count, sized) = count_at(bytes);
+    let (size, rest) = size_at(sized);
+    if rest.len() < size as usize {
         return None;
     }
-    let (sized, more) = rest.split_at(LENGTH + size);
-    if count != u64::MAX - count_nonzero(sized) {
+    let (item, more) = rest.split_at(size as usize);
+    let first = count_nonzero(&size.to_be_bytes());
+    if count != u64::MAX - (first + count_nonzero(item)) {
         return None;
     }
-    Some((&sized[LENGTH..], more))
+    Some((item, more))
 }
 
 // Whether these bytes begin with a whole batch.
@@ -53,12 +77,14 @@ fn is_whole(bytes: &[u8]) -> bool
     ensures { IsTrue result ↔ IsWhole bytes.now }
 {
     let mut rest = bytes;
-    while let Some((_, behind)) = first_item(rest) {
-        match behind {
-            [SHUT, ..] => return true,
-            [OPEN, more @ ..] => rest = more,
-            _ => return false,
+    while let Some((_, next)) = first_item(rest) {
+        if let Some(_end) = behind(SHUT, next) {
+            return true;
         }
+        let Some(more) = behind(OPEN, next) else {
+            return false;
+        };
+        rest = more;
     }
     false
 }
@@ -108,23 +134,13 @@ fn take_in(alloc: Global, records: &mut Vec<Vec<u8>>, bytes: &[u8]) -> Result<()
     Ok(())
 }
 
-// What stands behind an open gate.
-fn behind_open(bytes: &[u8]) -> Option<&[u8]>
-    ensures some { IfSome result (λ rest. bytes.now ≡ 1 ∷ rest.now) }
-    ensures none { IfNone result ((rest : List ℕ) → bytes.now ≡ 1 ∷ rest → ⊥) }
-{
-    match bytes {
-        [OPEN, rest @ ..] => Some(rest),
-        _ => None,
-    }
-}
-
 // The first record behind an open gate, and what stands behind it.
 fn next_record(bytes: &[u8]) -> Option<(&[u8], &[u8])>
     ensures some { IfSome result (λ p. BeginsOpen bytes.now p.0.now p.1.now) }
     ensures none { IfNone result (Stops bytes.now) }
 {
-    first_record(behind_open(bytes)?)
+    let rest = behind(OPEN, bytes)?;
+    first_record(rest)
 }
 
 // Adds the records at the front of these bytes, each behind an open gate, and tells where they end.
@@ -132,9 +148,9 @@ fn read_open(alloc: Global, records: &mut Vec<Vec<u8>>, bytes: &[u8]) -> Result<
     ensures { IfOk result (λ n. IsReadOn bytes.now n (records_of records.old.items) (records_of records.new.items)) }
 {
     let mut rest = bytes;
-    while let Some((record, behind)) = next_record(rest) {
+    while let Some((record, next)) = next_record(rest) {
         take_in(alloc, records, record)?;
-        rest = behind;
+        rest = next;
     }
     Ok(bytes.len() - rest.len())
 }
@@ -165,14 +181,15 @@ fn read_batch(
     let Some((_, tail)) = bytes.split_first() else {
         return Err(damaged);
     };
-    let Some((record, behind)) = first_record(tail) else {
+    let Some((record, others)) = first_record(tail) else {
         return Err(damaged);
     };
     take_in(alloc, records, record)?;
-    let size = read_open(alloc, records, behind)?;
-    match behind.split_at(size).1 {
-        [SHUT, ..] => Ok(bytes.len() - behind.len() + size),
-        _ => Err(damaged),
+    let size = read_open(alloc, records, others)?;
+    let (_, rest) = others.split_at(size);
+    match behind(SHUT, rest) {
+        Some(_) => Ok(bytes.len() - others.len() + size),
+        None => Err(damaged),
     }
 }
 
@@ -223,8 +240,8 @@ fn block_size(bytes: &[u8]) -> Option<usize>
         return None;
     }
     let (_, rest) = count_at(rest);
-    let size = u32::from_be_bytes([rest[0], rest[1], rest[2], rest[3]]) as usize;
-    Some(1 + COUNT + LENGTH + size)
+    let (size, _) = size_at(rest);
+    Some(1 + COUNT + LENGTH + size as usize)
 }
 
 // A copy of the first record, and whether its gate is open.

@@ -1,5 +1,5 @@
 //! Records as bytes.
-ghost use Rattle.std.specs.Prelude.{◌≡◌, ◌<◌, ◌≤◌, ◌^◌, ◌++◌, ◌∷◌, [], length, IfOk, OnOk, IsErrOf};
+ghost use Rattle.std.specs.Prelude.{◌≡◌, ◌-◌, ◌<◌, ◌≤◌, ◌^◌, ◌++◌, ◌∷◌, [], length, IfOk, OnOk, IsErrOf};
 ghost use Rattle.gw_log.specs.File.{AreShort, AreInLimit, nonzero, body, item, blocks};
 ghost use Rattle.gw_log.specs.State.{records_of};
 
@@ -30,13 +30,26 @@ const LONGEST: usize = 1 << 31;
 
 /// How many of these bytes are not 0.
 pub(crate) fn count_nonzero(bytes: &[u8]) -> u64
-    ensures { result ≡ nonzero bytes.now }
+    ensures count { result ≡ nonzero bytes.now }
+    ensures few { result ≤ length bytes.now }
 {
     let mut count = 0;
     for byte in bytes {
         count += u64::from(*byte != 0);
     }
     count
+}
+
+// The count before a record, of the bytes of its length, its digest and its own.
+fn count_of(size: &[u8], digest: &[u8], bytes: &[u8]) -> u64
+    requires size { length size.now ≤ 4 }
+    requires digest { length digest.now ≤ 32 }
+    requires bytes { length bytes.now ≤ 2 ^ 31 }
+    ensures { result ≡ 2 ^ 64 - 1 - nonzero (size.now ++ (digest.now ++ bytes.now)) }
+{
+    let first = count_nonzero(size);
+    let second = count_nonzero(digest);
+    u64::MAX - (first + second + count_nonzero(bytes))
 }
 
 // Writes a record behind its gate.
@@ -46,7 +59,7 @@ fn write_record(out: &mut Vec<u8>, bytes: &[u8]) -> Result<(), AllocError>
 {
     let size = ((DIGEST + bytes.len()) as u32).to_be_bytes();
     let digest = digest_of(bytes);
-    let count = u64::MAX - count_nonzero(&size) - count_nonzero(&digest) - count_nonzero(bytes);
+    let count = count_of(&size, &digest, bytes);
     out.push(OPEN)?;
     out.extend_from_slice(&count.to_be_bytes())?;
     out.extend_from_slice(&size)?;

@@ -4,7 +4,7 @@ use Rattle.gw_log.specs.declared.fault.LogFault.{LogFault}
 use Rattle.gw_log.specs.declared.fault.LogFault.TheVariants as fault
 use Rattle.gw_log.specs.Disk.{Files, IsGone, IsMixed, Only, LeavesChanged}
 use Rattle.gw_log.specs.File.{item, counted, body, blocks, batch, AreShort, Has, HasEither, HasOrIs, HasRecordAt, IsShut, IsEnd, IsDamagedAt}
-use Rattle.gw_log.specs.State.{SegmentState, Stands, IsStaged, staged}
+use Rattle.gw_log.specs.State.{SegmentState, Stands, IsStaged, at_rest, staged}
 
 -- behind a gate the bytes begin with this record, and these stand behind it
 pub record Begins (bytes r more : List ℕ) : Type 0 where
@@ -23,7 +23,7 @@ pub record BeginsOpen (bytes r more : List ℕ) : Type 0 where
 
 -- the bytes begin with no record, or with no item
 abbrev pub HasNone : List ℕ → Type 0
-HasNone bytes = (r more : List ℕ) → Begins bytes r more → ⊥
+HasNone bytes = (r more : List ℕ) → length (item r) < 2 ^ 32 → bytes ≡ body r ++ more → ⊥
 
 abbrev pub HasNoItem : List ℕ → Type 0
 HasNoItem bytes = (item more : List ℕ) → BeginsItem bytes item more → ⊥
@@ -101,11 +101,16 @@ Refuses file fault.Empty = ⊥
 Refuses file fault.Taken = ⊥
 Refuses file fault.Missing = ⊥
 
+-- The file of this number has these records, each behind an open gate, and is ended. All of it is on the disk
+pub record IsAtRest {D : Type 0} (seen : D → Files) (may_leave : D → Files → Type 0) (disk : D) (number : ℕ) (records : List (List ℕ)) : Type 0 where
+  pub file : seen disk number ≡ at_rest records
+  pub durable : Only (seen disk) (may_leave disk)
+
 -- The gate of a batch with a gate of 0 behind it is opened: at `Ok` its records count
 abbrev pub OpensGate : {D T E : Type 0} → (D → Files) → (D → Files → Type 0) → (number end : ℕ) → (old new : D) → Result T E → Type 0
 OpensGate seen may_leave number end old new result =
     (reach : ℕ) (these last : List (List ℕ)) → IsStaged seen may_leave 0 old number end reach these last → 1 ≤ length last
-    → OnOk result (IsStaged seen may_leave 0 new number reach reach (these ++ last) [])
+    → OnOk result (IsAtRest seen may_leave new number (these ++ last))
 
 -- a crash while it is opened leaves the records before it, or all, with nothing behind them
 abbrev pub LeavesOpening : {D : Type 0} → (D → Files) → (D → Files → Type 0) → (D → ℕ) → (D → ℕ → Files → Type 0) → (number end : ℕ) → (old new : D) → Type 0

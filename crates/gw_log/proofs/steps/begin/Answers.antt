@@ -1,6 +1,6 @@
 use Rattle.std.proofs.Common.{[], arith}
 use Rattle.gw_log.proofs.Moments.{weaker, joined}
-use Rattle.gw_log.proofs.Sound.{none_yet, added_either, one_either, since, changed}
+use Rattle.gw_log.proofs.Sound.{none_yet, added_either, one_either, since, changed, from_none}
 use Rattle.gw_log.proofs.steps.begin.Goals as goal
 
 pub returns-in_err-repair-clause-any_moment : goal.returns-in_err-repair-clause-any_moment
@@ -23,4 +23,4 @@ returns-clause-any_moment g c = λ records only none is short.
 
 pub returns-clause-ok : goal.returns-clause-ok
 returns-clause-ok g c = λ records only none is short.
-    c.in_ok-put.ensures.ok 2 [] [] records (c.in_ok-repair.ensures.repaired [] only (none_yet _ none)) is short (omega arith)
+    from_none _ _ _ _ _ records (c.in_ok-put.ensures.ok 2 [] [] records (c.in_ok-repair.ensures.repaired [] only (none_yet _ none)) is short (omega arith))

@@ -33,7 +33,7 @@ returns-in_err-put-clause-any_moment g c =
     let moved = moved_staged _ _ _ _ _ _ _ _ _ st.staged (c.in_ok-begin.ensures.others _ (apart _)) begun.durable in
     let first = weaker _ _ _ _ _ _ (λ f ch. begins _ these next _ f (has_stands _ _ _ these st _ refl) ch) (c.begin.ensures.any_moment next st.staged.durable none tail fits) in
     joined _ _ _ _ _ _ first (weaker _ _ _ _ _ _
-    (λ f ch. ends_at _ these _ _ next _ _ f st.all there c.in_ok-begin.ensures.others ch) (c.put.ensures.any_moment 0 _ _ ([] ∷ []) moved last_bytes (empty_short, tt))))
+    (λ f ch. ends_at _ these st.these st.last next _ _ f st.all there c.in_ok-begin.ensures.others ch) (c.put.ensures.any_moment 0 _ _ ([] ∷ []) moved last_bytes (empty_short, tt))))
 
 pub returns-in_err-settle-clause-any_moment : goal.returns-in_err-settle-clause-any_moment
 returns-in_err-settle-clause-any_moment g c =
@@ -47,10 +47,10 @@ returns-in_err-settle-clause-any_moment g c =
     let moved = moved_staged _ _ _ _ _ _ _ _ _ st.staged (c.in_ok-begin.ensures.others _ (apart _)) begun.durable in
     let first = weaker _ _ _ _ _ _ (λ f ch. begins _ these next _ f (has_stands _ _ _ these st _ refl) ch) (c.begin.ensures.any_moment next st.staged.durable none tail fits) in
     let second = joined _ _ _ _ _ _ first (weaker _ _ _ _ _ _
-    (λ f ch. ends_at _ these _ _ next _ _ f st.all there c.in_ok-begin.ensures.others ch) (c.put.ensures.any_moment 0 _ _ ([] ∷ []) moved last_bytes (empty_short, tt))) in
+    (λ f ch. ends_at _ these st.these st.last next _ _ f st.all there c.in_ok-begin.ensures.others ch) (c.put.ensures.any_moment 0 _ _ ([] ∷ []) moved last_bytes (empty_short, tt))) in
     let ending = c.in_ok-put.ensures.ok 0 _ _ ([] ∷ []) moved last_bytes (empty_short, tt) (omega arith) in
     joined _ _ _ _ _ _ second (weaker _ _ _ _ _ _
-    (λ f ch. closes_at _ these _ next _ _ _ f st.all there c.in_ok-begin.ensures.others c.in_ok-put.ensures.others ch)
+    (λ f ch. closes_at _ these (st.these ++ st.last) next _ _ _ f st.all there c.in_ok-begin.ensures.others c.in_ok-put.ensures.others ch)
     (c.settle.ensures.any_moment _ _ ([] ∷ []) ending (omega arith))))
 
 pub returns-clause-any_moment : goal.returns-clause-any_moment
@@ -65,10 +65,10 @@ returns-clause-any_moment g c =
     let moved = moved_staged _ _ _ _ _ _ _ _ _ st.staged (c.in_ok-begin.ensures.others _ (apart _)) begun.durable in
     let first = weaker _ _ _ _ _ _ (λ f ch. begins _ these next _ f (has_stands _ _ _ these st _ refl) ch) (c.begin.ensures.any_moment next st.staged.durable none tail fits) in
     let second = joined _ _ _ _ _ _ first (weaker _ _ _ _ _ _
-    (λ f ch. ends_at _ these _ _ next _ _ f st.all there c.in_ok-begin.ensures.others ch) (c.put.ensures.any_moment 0 _ _ ([] ∷ []) moved last_bytes (empty_short, tt))) in
+    (λ f ch. ends_at _ these st.these st.last next _ _ f st.all there c.in_ok-begin.ensures.others ch) (c.put.ensures.any_moment 0 _ _ ([] ∷ []) moved last_bytes (empty_short, tt))) in
     let ending = c.in_ok-put.ensures.ok 0 _ _ ([] ∷ []) moved last_bytes (empty_short, tt) (omega arith) in
     joined _ _ _ _ _ _ second (weaker _ _ _ _ _ _
-    (λ f ch. closes_at _ these _ next _ _ _ f st.all there c.in_ok-begin.ensures.others c.in_ok-put.ensures.others ch)
+    (λ f ch. closes_at _ these (st.these ++ st.last) next _ _ _ f st.all there c.in_ok-begin.ensures.others c.in_ok-put.ensures.others ch)
     (c.settle.ensures.any_moment _ _ ([] ∷ []) ending (omega arith))))
 
 pub returns-clause-ok : goal.returns-clause-ok
@@ -81,5 +81,5 @@ returns-clause-ok g c =
     let begun = c.in_ok-begin.ensures.ok next st.staged.durable none tail fits in
     let moved = moved_staged _ _ _ _ _ _ _ _ _ st.staged (c.in_ok-begin.ensures.others _ (apart _)) begun.durable in
     let ending = c.in_ok-put.ensures.ok 0 _ _ ([] ∷ []) moved last_bytes (empty_short, tt) (omega arith) in
-    has_turned _ _ _ _ _ _ _ _ these _ next begun c.in_ok-begin.ensures.others c.in_ok-put.ensures.others c.in_ok-settle.ensures.others st.all
+    has_turned _ _ _ _ _ _ _ these _ next begun c.in_ok-begin.ensures.others c.in_ok-put.ensures.others c.in_ok-settle.ensures.others st.all
     (c.in_ok-settle.ensures.ok _ _ ([] ∷ []) ending (omega arith)))
