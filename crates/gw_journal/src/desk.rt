@@ -217,6 +217,7 @@ impl<J: Naming, S: Storage + Drop> Desk<J, S> {
     }
 
     /// The storage, with what it wasn't given yet. None: another thread has it, or it has all that was put, or there was a fault.
+    #[tactic(auto, using(crate::proofs::Logging::job_taken))]
     pub fn take(&mut self, alloc: Global) -> Option<Job<J, S>>
         ensures same { self.new.history ≡ self.old.history }
         ensures seen { IfSome result (λ job. job.history ≡ self.old.history) }
