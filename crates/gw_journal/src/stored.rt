@@ -134,6 +134,7 @@ impl<K: Summary, D: Disk> Stored<K, D> {
             e.0 ≡ LogFault.Damaged segment at → Only (D.seen disk) (D.may_leave e.1)) }
         ensures missing { IfErr result (λ e. D.honest e.1 → e.0 ≡ LogFault.Missing → (n : ℕ) → D.seen disk n ≡ []) }
         ensures back { IfOk result (λ r. D.honest (disk_of r.0) → D.honest disk) }
+        ensures back_err { IfErr result (λ e. D.honest e.1 → D.honest disk) }
     {
         match Log::open(alloc, disk, id) {
             Err(failed) => Err(failed),

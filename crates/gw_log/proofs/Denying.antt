@@ -3,9 +3,10 @@ use Rattle.std.proofs.Common.{◌≡◌, inl, inr, ℕ, ◌+◌, ◌-◌, ◌<�
 use Rattle.std.proofs.lemmas.Bool.{cases_eq}
 use Rattle.gw_log.specs.Disk.{Files, AreEnds}
 use Rattle.gw_log.specs.File.{body, blocks, Has, HasNoRecord, HasRecordAt, IsDamagedAt}
-use Rattle.gw_log.specs.Chain.{Head, spelled, IsWide, ended, AreBefore, none, more, Origin, IsLog, HasHead}
+use Rattle.gw_log.specs.Chain.{Head, spelled, IsWide, ended, AreBefore, none, more, Origin, IsLog, IsNoLog, HasHead}
 use Rattle.gw_log.specs.Opening.{BeginsAs, IsSealed}
-use Rattle.gw_log.specs.own.Opens.{HasNoHead, IsNoLogOf, IsNoLogUpTo}
+use Rattle.gw_log.specs.Opening.{IsOnlyOf}
+use Rattle.gw_log.specs.own.Opens.{HasNoHead, IsHeadedBy, IsNoLogOf, IsNoLogUpTo}
 use Rattle.gw_log.specs.own.Steps.{UpTo}
 use Rattle.gw_log.proofs.Ways.{first_same, not_both}
 use Rattle.gw_log.proofs.Placing.{same_numbers, first_of, next_of, has_ended}
@@ -31,6 +32,12 @@ pub other_there : (id n : ℕ) (g : Head) (read bytes file : List ℕ) → HasRe
 other_there id n g read bytes file here is spells wide differs b h =
     let same = same_numbers g h.head wide h.wide (sym spells ∙ is ∙ same_first id n b bytes file h here) in
     differs (same.0 ∙ h.its_number) (same.4 ∙ h.its_id)
+
+-- a head of the file is one of the log whose head was read
+pub headed_by : (g : Head) (read bytes file : List ℕ) → HasRecordAt 0 bytes file → read ≡ bytes → read ≡ spelled g → IsWide g → IsHeadedBy g.id file
+headed_by g read bytes file here is spells wide other n b h =
+    let same = same_numbers g h.head wide h.wide (sym spells ∙ is ∙ same_first other n b bytes file h here) in
+    sym (same.4 ∙ h.its_id)
 
 before_is : (id n b f before o : ℕ) (file : List ℕ) → HasHead id n b file → BeginsAs id n f before o file → before ≡ b
 before_is id n b f before o file h begins =
@@ -66,6 +73,17 @@ module _ (id : ℕ) (files : Files) (from : Origin) (head : Head) (records : Lis
       let same = same_numbers begins.head head begins.wide log.last.wide
       (same_first head.id head.number head.before (spelled begins.head) (files head.number) its here) in
       omega (arith, lt, begins.its_oldest, same.3, log.there, start)
+
+-- by the head of the first file
+pub only_of : (id first last : ℕ) (files : Files) → AreEnds first last files → IsHeadedBy id (files first) → IsOnlyOf id files
+only_of id first last files ends by other from head records log =
+    let least = least_is other files from head records log first last ends in
+    by other from.number from.before (subst (λ k. HasHead other from.number from.before (files k)) least (first_of other files from head records log))
+
+pub none_of : (first last : ℕ) (files : Files) → AreEnds first last files → ((id n : ℕ) → HasNoHead id n (files first)) → (id : ℕ) → IsNoLog id files
+none_of first last files ends not id from head records log =
+    let least = least_is id files from head records log first last ends in
+    not id from.number from.before (subst (λ k. HasHead id from.number from.before (files k)) least (first_of id files from head records log))
 
 -- ---- the last file
 
@@ -107,6 +125,12 @@ module _ (id : ℕ) (files : Files) (from : Origin) (head : Head) (records : Lis
 
 pub no_head_same : (id n : ℕ) (f g : Files) → f ≡ g → HasNoHead id n (f n) → HasNoHead id n (g n)
 no_head_same id n f g is denied = subst (λ (h : Files). HasNoHead id n (h n)) is denied
+
+pub headed_same : (id n : ℕ) (f g : Files) → f ≡ g → IsHeadedBy id (f n) → IsHeadedBy id (g n)
+headed_same id n f g is by = subst (λ (h : Files). IsHeadedBy id (h n)) is by
+
+pub unheaded_same : (k : ℕ) (f g : Files) → f ≡ g → ((id n : ℕ) → HasNoHead id n (f k)) → (id n : ℕ) → HasNoHead id n (g k)
+unheaded_same k f g is denied = subst (λ (h : Files). (id n : ℕ) → HasNoHead id n (h k)) is denied
 
 pub damaged_same : (at n : ℕ) (f g : Files) → f ≡ g → IsDamagedAt at (f n) → IsDamagedAt at (g n)
 damaged_same at n f g is damage = subst (λ (h : Files). IsDamagedAt at (h n)) is damage

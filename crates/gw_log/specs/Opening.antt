@@ -15,6 +15,10 @@ pub record BeginsAs (id number first before oldest : ℕ) (file : List ℕ) : Ty
   pub its_before : head.before ≡ before
   pub its_oldest : head.oldest ≡ oldest
 
+-- what the folder is a log of, it is of this number
+abbrev pub IsOnlyOf : ℕ → Files → Type 0
+IsOnlyOf id files = (other : ℕ) (from : Origin) (head : Head) (records : List (List ℕ)) → IsLog other files from head records → other ≡ id
+
 -- the last file of a log begins with the head that its state tells
 abbrev pub HasItsHead : {D : Type 0} → (D → Files) → ℕ → D → LogState D → Type 0
 HasItsHead seen id disk s = (before : ℕ) × BeginsAs id s.segment.number s.first before s.oldest (seen disk s.segment.number)

@@ -185,6 +185,7 @@ impl<D: Disk> Log<D> {
             e.0 ≡ LogFault.Damaged segment at → Only (D.seen disk) (D.may_leave e.1)) }
         ensures missing { IfErr result (λ e. D.honest e.1 → e.0 ≡ LogFault.Missing → (n : ℕ) → D.seen disk n ≡ []) }
         ensures back { IfOk result (λ r. D.honest r.0.segment.disk → D.honest disk) }
+        ensures back_err { IfErr result (λ e. D.honest e.1 → D.honest disk) }
     {
         let mut disk = disk;
         let found = match open_folder(alloc, &mut disk, id) {

@@ -47,6 +47,10 @@ pub record IsTop (files : Files) (last top : ℕ) : Type 0 where
 abbrev pub HasNoHead : (id number : ℕ) → List ℕ → Type 0
 HasNoHead id number file = (before : ℕ) → HasHead id number before file → ⊥
 
+-- a head of the file is one of this log
+abbrev pub IsHeadedBy : (id : ℕ) → List ℕ → Type 0
+IsHeadedBy id file = (other number before : ℕ) → HasHead other number before file → other ≡ id
+
 -- the folder is no log whose files go from the first to the last
 abbrev pub IsNoLogOf : (id first last : ℕ) → Files → Type 0
 IsNoLogOf id first last files =

@@ -1,0 +1,3 @@
+mod Alike
+mod Reading
+mod Denying
