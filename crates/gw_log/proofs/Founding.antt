@@ -8,7 +8,7 @@ use Rattle.gw_log.specs.Disk.{Files, Only, AreEnds, Changes}
 use Rattle.gw_log.specs.File.{Has, HasRecordAt}
 use Rattle.gw_log.specs.State.{records_of, SegmentState, IsStaged}
 use Rattle.gw_log.specs.Chain.{Head, spelled, AreSome, IsEnded, ended, AreBefore, none, more, IsUnborn, Origin, IsLast, IsLog, LogState, Holds}
-use Rattle.gw_log.specs.Opening.{BeginsAs, AreOfLast, IsSealed}
+use Rattle.gw_log.specs.Opening.{BeginsAs, IsPlaced, AreLinked, AreOfLast, IsSealed}
 use Rattle.gw_log.specs.own.Opens.{Reads, IsTrimmed, IsFound, IsLastOf, IsTop}
 use Rattle.gw_log.specs.own.Steps.{UpTo}
 use Rattle.gw_log.proofs.Ways.{first_is, one_way}
@@ -270,3 +270,22 @@ none_behind files last top at n lt = at.none n (omega (arith, lt, at.high))
 pub head_at : (id n k first before oldest : ℕ) (files : Files) → n ≡ k → BeginsAs id k first before oldest (files k)
     → (length_before : ℕ) × BeginsAs id n first length_before oldest (files n)
 head_at id n k first before oldest files is begins = (before, subst (λ m. BeginsAs id m first before oldest (files m)) (sym is) begins)
+
+-- one file more is linked
+pub link_more : (id first n : ℕ) (files : Files) → AreLinked id files first n → IsPlaced id (n + 1) (length (files n)) (files (n + 1)) → AreLinked id files first (n + 1)
+link_more id first n files linked placed = record {
+  before = linked.before;
+  start = linked.start;
+  next = λ k low lt. elim (cases_eq k n) [
+    | inl is ↦ subst (λ j. IsPlaced id (j + 1) (length (files j)) (files (j + 1))) (sym is) placed
+    | inr differs ↦ linked.next k low (omega (arith, lt, differs))
+  ];
+}
+
+pub placed_so : (id n first before oldest size : ℕ) (files : Files) → BeginsAs id (n + 1) first before oldest (files (n + 1)) → before ≡ size → size ≡ length (files n)
+    → IsPlaced id (n + 1) (length (files n)) (files (n + 1))
+placed_so id n first before oldest size files begins is long = record {
+  first = first;
+  oldest = oldest;
+  begins = subst (λ b. BeginsAs id (n + 1) first b oldest (files (n + 1))) (is ∙ long) begins;
+}

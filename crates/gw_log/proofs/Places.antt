@@ -1,16 +1,19 @@
 -- A record at an offset of a file.
 use Rattle.std.proofs.Common.{◌≡◌, ℕ, ◌+◌, ◌-◌, ◌<◌, ◌≤◌, ◌^◌, min, List, [], ◌∷◌, ◌++◌, length, take, drop, refl, sym, ◌∙◌, ap, subst, arith, append_assoc, length-append, length-drop, take-append-drop}
-use Rattle.std.specs.Int.{w32, w64, to_be_bytes}
-use Rattle.std.specs.Prelude.{Option, Some, None, IfSome, IfNone, Vec, Bool, true, false, IsTrue, ◌&&◌}
+use Rattle.std.specs.Int.{w32, w64, to_be_bytes, from_be_bytes}
+use Rattle.std.proofs.lemmas.Nat.{from_be_bytes-to_be_bytes_4}
+use Rattle.std.specs.Prelude.{Option, Some, None, IfSome, IfNone, Vec, Bool, true, false, IsTrue, ◌&&◌, nat_eq}
 use Rattle.std.specs.declared.alloc.Global.{Global}
+use Rattle.std.proofs.lemmas.Bool.{eqb-true}
 use Rattle.std.proofs.lemmas.List.{drop_at, drop-drop, append-nil}
 use Rattle.gw_log.specs.File.{nonzero, item, sized, counted, body, blocks, HasNoRecord, HasRecordAt}
 use Rattle.gw_log.specs.Disk.{Files}
 use Rattle.gw_log.specs.State.{ReaderState, IsRead}
-use Rattle.gw_log.specs.own.Steps.{BeginsGated, IsThere}
+use Rattle.gw_log.specs.own.Steps.{Begins, BeginsGated, HasNone, IsThere}
 use Rattle.sha2.specs.Sha256.{sha256}
 use Rattle.sha2.proofs.Facts256.{length-sha256}
 use Rattle.gw_log.proofs.Ends.{take_past, blocks-append, short-append}
+use Rattle.gw_log.proofs.Ways.{fronts}
 
 -- what begins a part of a file stands there
 pub begins_part : (at n : ℕ) (file part r more : List ℕ) (is_open : Bool) → part ≡ take n (drop at file) → BeginsGated part r more is_open → IsThere at is_open r file
@@ -67,6 +70,32 @@ sized_at at file front size is sizes gate r more short begins =
     sizes gate (eight r) r (take 4083 more) short
     (is ∙ ap (λ (l : List ℕ). take 4096 l) begins
     ∙ take_past (gate ∷ to_be_bytes w64 (eight r) ++ to_be_bytes w32 (length (item r))) more 4096 4083 refl)
+
+-- the length that stands in four bytes behind a gate and a count is that of the item
+pub size_found : (bytes rest sizes behind : List ℕ) (gate count size : ℕ) → bytes ≡ gate ∷ rest → rest ≡ to_be_bytes w64 count ++ sizes
+    → sizes ≡ to_be_bytes w32 size ++ behind → size < 2 ^ 32 → Sizes bytes (Some (13 + size))
+size_found bytes rest sizes behind gate count size is one two fits g n r more short begins =
+    let after = fronts 8 (to_be_bytes w64 count) (to_be_bytes w64 n) sizes (to_be_bytes w32 (length (item r)) ++ more) refl refl
+    (sym one ∙ ap (λ (l : List ℕ). drop 1 l) (sym is ∙ begins)) in
+    let four = fronts 4 (to_be_bytes w32 size) (to_be_bytes w32 (length (item r))) behind more refl refl (sym two ∙ after.1) in
+    let same : size ≡ length (item r) =
+    sym (from_be_bytes-to_be_bytes_4 size fits) ∙ ap (from_be_bytes w32) four.0 ∙ from_be_bytes-to_be_bytes_4 (length (item r)) short in
+    let long : 13 + size ≡ length (1 ∷ body r) = omega (arith, same) in
+    ap (λ (k : ℕ). Some k) long
+
+-- a copy of the record that begins behind a gate
+pub gated : (bytes rest r copy more : List ℕ) (gate : ℕ) → bytes ≡ gate ∷ rest → Begins rest r more → copy ≡ r
+    → (behind : List ℕ) × BeginsGated bytes copy behind (nat_eq gate 1)
+gated bytes rest r copy more gate is begins same = subst (λ (l : List ℕ). (behind : List ℕ) × BeginsGated bytes l behind (nat_eq gate 1)) (sym same) (more, record {
+  gate = gate;
+  whole = is ∙ ap (λ (l : List ℕ). gate ∷ l) begins.whole;
+  short = begins.short;
+  opened = eqb-true gate 1;
+})
+
+-- where none begins behind the gate, none stands there
+pub none_gated : (bytes rest : List ℕ) (gate : ℕ) → bytes ≡ gate ∷ rest → HasNone rest → HasNoRecord bytes
+none_gated bytes rest gate is none g r more short same = none r more short (ap (λ (l : List ℕ). drop 1 l) (sym is ∙ same))
 
 differ : (n : ℕ) (o : Option ℕ) → o ≡ None → o ≡ Some n → ⊥
 differ n o none some = subst (λ p. IfSome p (λ _. ⊥)) (sym none ∙ some) tt

@@ -8,6 +8,17 @@ use Rattle.gw_log.proofs.Denying.{handed_on, top_whole, former_whole, last_is_op
 use Rattle.gw_log.proofs.opening.last_born.Goals.{then-len-le1+then-first-top+in_ok-former+else-not-is_sealed, else-len-le1, else-len-le1-via-then-len-le1+else-first-top, else-len-le1-via-else-len-le1}
 use Rattle.gw_log.proofs.opening.last_born.Goals as goal
 
+pub returns-then-not-is_sealed-clause-up : goal.returns-then-not-is_sealed-clause-up
+returns-then-not-is_sealed-clause-up g c = λ honest.
+    up_same _ _ _ _ _ _ _ c.read_file.ensures.reads.same (c.in_ok-former.ensures.up honest)
+
+pub returns-clause-up : goal.returns-clause-up
+returns-clause-up g c = λ honest. elim c.if-len-le1.branch [
+  | then-len-le1+then-first-top+in_ok-former+else-not-is_sealed w ↦
+      c.in_ok-records.ensures.up (w.in_ok-former.ensures.reads.back (subst g.D.Disk.honest w.disk-is honest))
+  | else-len-le1 w ↦ c.in_ok-records.ensures.up (subst g.D.Disk.honest w.disk-is honest)
+]
+
 pub returns-then-not-is_sealed-clause-last : goal.returns-then-not-is_sealed-clause-last
 returns-then-not-is_sealed-clause-last g c = λ honest id from head records log ends.
     former_last _ _ _ _ _ log _ _ ends _ _ _ _ c.if-first-top.true (up_same _ _ _ _ _ _ _ c.read_file.ensures.reads.same (c.in_ok-former.ensures.up honest))
