@@ -79,6 +79,20 @@ impl<J: Naming, S: Storage + Drop> Model for Desk<J, S> {
 }
 
 impl<J: Naming> Ticket<J> {
+    /// The place of its record in the journal.
+    pub fn place(&self) -> u64
+        ensures { result ≡ self.now.place }
+    {
+        self.place
+    }
+
+    /// What was seen of the journal, with its record.
+    pub fn front(&self) -> &Front<J>
+        ensures { result.now ≡ self.now.history }
+    {
+        &self.front
+    }
+
     /// The same once more. It takes no memory.
     pub fn again(&self) -> Ticket<J>
         ensures { result ≡ self.now }
@@ -96,6 +110,13 @@ impl<J: Naming> Receipt<J> {
         ensures { result ≡ self.now.place }
     {
         self.place
+    }
+
+    /// What was seen of the journal, with its record on the disk.
+    pub fn front(&self) -> &Front<J>
+        ensures { result.now ≡ self.now.history }
+    {
+        &self.front
     }
 }
 

@@ -1,8 +1,8 @@
 -- What an event more does to a ledger.
-use Rattle.std.proofs.Common.{◌≡◌, ◌⊎◌, inl, inr, ℕ, ◌+◌, List, [], ◌∷◌, ◌++◌, map, length, refl, ap, sym, ◌∙◌, subst, arith}
+use Rattle.std.proofs.Common.{◌≡◌, ◌⊎◌, inl, inr, ℕ, ◌+◌, List, [], ◌∷◌, ◌++◌, length, refl, ap, sym, ◌∙◌, subst, arith}
 use Rattle.std.specs.Prelude.{⊤, IsTrue}
 use Rattle.std.specs.List.{AllByRecursion, fold}
-use Rattle.std.proofs.lemmas.List.{map-append, length-map}
+use Rattle.std.proofs.lemmas.List.{map-append, length-append}
 use Rattle.std.proofs.lemmas.List.Sums.{fold-append}
 use mathlib.Core.List.{IsPrefix}
 use Rattle.gw_due.specs.Events.{Event}
@@ -73,6 +73,23 @@ front_spelled (r ∷ part) more [] s = absurd (cc (s.are))
 front_spelled (r ∷ part) more (e ∷ entries) s =
     one_longer r part e entries (cc (s.are)) s.fit.0 (front_spelled part more entries (record { are = cc (s.are); fit = s.fit.1 }))
 
+-- records, of which the last is this entry's
+pub record LastCut (records : List (List ℕ)) (e : Entry) (entries : List Entry) : Type 0 where
+  pub front : List Entry
+  pub all : entries ≡ front ++ e ∷ []
+  pub spells : Spells records front
+
+cut_one : (records these : List (List ℕ)) (e : Entry) (entries : List Entry) → these ≡ records ++ spelled e ∷ [] → Fits e → Spells these entries
+    → LastCut records e entries
+cut_one records these e entries same fits spells =
+    let whole = subst (λ rs. Spells rs entries) same spells in
+    let cut = front_spelled records (spelled e ∷ []) entries whole in
+    record {
+      front = cut.front;
+      all = one_reading (records ++ spelled e ∷ []) entries (cut.front ++ e ∷ []) whole (spells_more records cut.front e cut.spells fits);
+      spells = cut.spells;
+    }
+
 -- ---- states
 
 next_from : (s : State) (log : List Event) → (fold after s log).next ≡ s.next + length log
@@ -85,13 +102,7 @@ events_more entries e = map-append (λ (e : Entry). e.event) entries (e ∷ [])
 -- the place of the next record
 pub next_is : (Routes : (names : List Name) (plan to bytes : List ℕ) → Type 0) (faithful : Type 0) (records : List (List ℕ)) (s : State)
     → IsInState Routes faithful records s → s.next ≡ length records
-next_is Routes faithful records s is =
-    let count = next_from nothing (events_of is.entries) in
-    let n : length (events_of is.entries) ≡ length is.entries = length-map is.entries (λ (e : Entry). e.event) in
-    let m : length (map spelled is.entries) ≡ length is.entries = length-map is.entries spelled in
-    let k : s.next ≡ (state_of (events_of is.entries)).next = ap (λ (s : State). s.next) is.is in
-    let l : length records ≡ length (map spelled is.entries) = ap length is.spells.are in
-    omega (arith, count, n, m, k, l)
+next_is Routes faithful records s is = is.counted
 
 -- ---- lawful logs
 
@@ -137,10 +148,9 @@ module _ (Routes : (names : List Name) (plan to bytes : List ℕ) → Type 0) wh
   pub state_stays : (old new : Type 0) (records these : List (List ℕ)) (s : State) → (new → old) → these ≡ records
       → IsInState Routes old records s → IsInState Routes new these s
   state_stays old new records these s less same is = record {
-    entries = is.entries;
-    spells = subst (λ rs. Spells rs is.entries) (sym same) is.spells;
-    is = is.is;
-    lawful = λ faithful. is.lawful (less faithful);
+    counted = is.counted ∙ ap length (sym same);
+    is = λ entries spells. is.is entries (subst (λ rs. Spells rs entries) same spells);
+    lawful = λ faithful entries spells. is.lawful (less faithful) entries (subst (λ rs. Spells rs entries) same spells);
   }
 
   -- nothing happened yet
@@ -152,27 +162,38 @@ module _ (Routes : (names : List Name) (plan to bytes : List ℕ) → Type 0) wh
   -- an entry is put
   pub state_more : (old new : Type 0) (records these : List (List ℕ)) (s : State) (e : Entry) → (new → old) → these ≡ records ++ spelled e ∷ []
       → Fits e → IsTrue (allows s e.event) → IsSeenIn Routes old records e.event → IsInState Routes old records s → IsInState Routes new these (after s e.event)
-  state_more old new records these s e less same fits allowed seen is =
-      let log = events_of is.entries in record {
-        entries = is.entries ++ e ∷ [];
-        spells = subst (λ rs. Spells rs (is.entries ++ e ∷ [])) (sym same) (spells_more records is.entries e is.spells fits);
-        is = ap (λ s. after s e.event) is.is ∙ sym (fold-append after nothing log (e.event ∷ [])) ∙ ap state_of (sym (events_more is.entries e));
-        lawful = λ faithful.
-            let before = is.lawful (less faithful) in
-            let allows_it : IsTrue (allows (state_of log) e.event) = subst (λ s. IsTrue (allows s e.event)) is.is allowed in
-            subst (λ l. Lawful Routes l) (sym (events_more is.entries e))
-            (one_more log e.event before ((decides Routes log e.event before).1 (allows_it, seen is.entries is.spells (less faithful))));
-      }
+  state_more old new records these s e less same fits allowed seen is = record {
+    counted =
+        let one = next_from s (e.event ∷ []) in
+        let all = ap length same ∙ length-append records (spelled e ∷ []) in
+        let count = is.counted in
+        omega (arith, one, all, count);
+    is = λ entries spells.
+        let cut = cut_one records these e entries same fits spells in
+        ap (λ s. after s e.event) (is.is cut.front cut.spells) ∙ sym (fold-append after nothing (events_of cut.front) (e.event ∷ []))
+        ∙ ap state_of (sym (events_more cut.front e)) ∙ ap (λ es. state_of (events_of es)) (sym cut.all);
+    lawful = λ faithful entries spells.
+        let cut = cut_one records these e entries same fits spells in
+        let log = events_of cut.front in
+        let before = is.lawful (less faithful) cut.front cut.spells in
+        let allows_it : IsTrue (allows (state_of log) e.event) = subst (λ s. IsTrue (allows s e.event)) (is.is cut.front cut.spells) allowed in
+        subst (λ es. Lawful Routes (events_of es)) (sym cut.all) (subst (λ l. Lawful Routes l) (sym (events_more cut.front e))
+        (one_more log e.event before ((decides Routes log e.event before).1 (allows_it, seen cut.front cut.spells (less faithful)))));
+  }
 
   -- its checkpoint speaks of these records
   pub told : (faithful : Type 0) (records : List (List ℕ)) (s : State) (bytes : List ℕ) → IsInState Routes faithful records s
       → bytes ≡ checkpoint s → StateFits s → Tells records bytes
   told faithful records s bytes is spells fits entries reads =
-      let same : is.entries ≡ entries = one_reading records is.entries entries is.spells reads in
-      let now : s ≡ state_of (events_of entries) = is.is ∙ ap (λ l. state_of (events_of l)) same in
+      let now = is.is entries reads in
       record { spells = spells ∙ ap checkpoint now; fits = subst StateFits now fits }
 
 -- no record stands there yet
 pub none_yet : (Routes : (names : List Name) (plan to bytes : List ℕ) → Type 0) (before : List (List ℕ)) (s : State) → before ≡ [] → s ≡ nothing → IsInState Routes ⊤ before s
 none_yet Routes before s empty new =
-    subst (λ b. IsInState Routes ⊤ b s) (sym empty) (record { entries = []; spells = record { are = refl; fit = tt }; is = new; lawful = λ _. no_event })
+    let none : (entries : List Entry) → Spells [] entries → [] ≡ entries = λ entries spells. one_reading [] [] entries (record { are = refl; fit = tt }) spells in
+    subst (λ b. IsInState Routes ⊤ b s) (sym empty) (record {
+      counted = ap (λ (s : State). s.next) new;
+      is = λ entries spells. new ∙ ap (λ es. state_of (events_of es)) (none entries spells);
+      lawful = λ _ entries spells. subst (λ es. Lawful Routes (events_of es)) (none entries spells) no_event;
+    })

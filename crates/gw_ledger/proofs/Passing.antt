@@ -19,7 +19,7 @@ use Rattle.gw_journal.specs.Logs.{Log, AreFaithful, AreFaithfulFrom, IsAt, after
 use Rattle.gw_journal.proofs.Logging.{log_later, log_read}
 use Rattle.gw_ledger.specs.Ledgers.{IsInState, IsSeenIn, Spells, events_of}
 use Rattle.gw_ledger.specs.Finding.{FoundState, InJournal, IsFound, IsMessage, IsNext, IsQuiet, IsScan, MessageState, ScanState, from_of, is_acceptance, makes_due}
-use Rattle.gw_ledger.proofs.Ledging.{faithful_part, front_spelled, one_reading}
+use Rattle.gw_ledger.proofs.Ledging.{faithful_part, front_spelled}
 
 -- ---- lists
 
@@ -242,17 +242,16 @@ pub seen_passed : (Routes : (names : List Name) (plan to bytes : List ℕ) → T
     → IsInState Routes (AreFaithful before history) (log_in before history).records s
     → IsSeenIn Routes (AreFaithful before history) (log_in before history).records (Passed found.receiver found.place how)
 seen_passed Routes before found history s how is p begins state entries spells faithful =
-    let log = events_of state.entries in
-    let same : state.entries ≡ entries = one_reading (log_in before history).records state.entries entries state.spells spells in
-    let says : Says log s = subst (Says log) (sym state.is) (stands Routes log (state.lawful faithful)).says in
+    let log = events_of entries in
+    let says : Says log s = subst (Says log) (sym (state.is entries spells)) (stands Routes log (state.lawful faithful entries spells)).says in
     let behind = of_receiver log found.receiver found.from s.receivers says.receivers begins in
     let later = log_later before found.history history p in
-    let cut = front_spelled (log_in before found.history).records later.more state.entries (subst (λ rs. Spells rs state.entries) later.records state.spells) in
+    let cut = front_spelled (log_in before found.history).records later.more entries (subst (λ rs. Spells rs entries) later.records spells) in
     let whole : log ≡ events_of cut.front ++ events_of cut.rest = ap events_of cut.is ∙ map-append (λ (e : Entry). e.event) cut.front cut.rest in
     let next = is (faithful_part before found.history history p faithful) cut.front cut.spells in
     let here : IsNext found.receiver found.from found.place log = subst (IsNext found.receiver found.from found.place) (sym whole)
     (next_stays found.receiver found.from found.place (events_of cut.front) (events_of cut.rest) next) in
-    subst (λ es. slice_get (left found.receiver (events_of es)) 0 ≡ Some found.place) same (ap (λ l. slice_get l 0) behind ∙ here)
+    ap (λ l. slice_get l 0) behind ∙ here
 
 -- ---- once more
 

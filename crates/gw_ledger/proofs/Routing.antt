@@ -14,7 +14,7 @@ use Rattle.gw_journal.proofs.Logging.{log_later}
 use Rattle.gw_ledger.specs.Ledgers.{IsInState, IsSeenIn, Spells, events_of}
 use Rattle.gw_ledger.specs.Finding.{InJournal}
 use Rattle.gw_ledger.specs.Accepting.{IsLook, IsRouted, LookState}
-use Rattle.gw_ledger.proofs.Ledging.{faithful_part, front_spelled, one_reading}
+use Rattle.gw_ledger.proofs.Ledging.{faithful_part, front_spelled}
 use Rattle.gw_ledger.proofs.Passing.{get_front}
 
 -- where the state says that a plan is in force, it stands there
@@ -22,9 +22,9 @@ pub look_now : (Routes : (names : List Name) (plan to bytes : List ℕ) → Type
     → s.plan ≡ Some place → IsInState Routes (AreFaithful before history) (log_in before history).records s
     → IsLook before (record { place = place; history = history })
 look_now Routes before history s place at state faithful entries spells =
-    let same : state.entries ≡ entries = one_reading (log_in before history).records state.entries entries state.spells spells in
-    let says : Says (events_of state.entries) s = subst (Says (events_of state.entries)) (sym state.is) (stands Routes (events_of state.entries) (state.lawful faithful)).says in
-    subst (λ es. IsPlanAt (Some place) (events_of es)) same (subst (λ p. IsPlanAt p (events_of state.entries)) at says.plan)
+    let log = events_of entries in
+    let says : Says log s = subst (Says log) (sym (state.is entries spells)) (stands Routes log (state.lawful faithful entries spells)).says in
+    subst (λ p. IsPlanAt p log) at says.plan
 
 pub seen_accepted : (Routes : (names : List Name) (plan to bytes : List ℕ) → Type 0) (before : List (List ℕ)) (look : LookState) (history : List happened.Event)
     (s : State) (number : ℕ) (to bytes : List ℕ) → IsLook before look → IsPrefix look.history history → s.plan ≡ Some look.place

@@ -1,5 +1,5 @@
 -- A journal whose records spell the events of a gateway's log, and the state of these events.
-use Rattle.std.specs.Prelude.{◌≡◌, ℕ, List, map, Option}
+use Rattle.std.specs.Prelude.{◌≡◌, ℕ, List, length, map, Option}
 use Rattle.std.specs.List.{AllByRecursion}
 use Rattle.gw_due.specs.Events.{Event, Margin}
 use Rattle.gw_due.specs.Due.{Name}
@@ -24,14 +24,13 @@ pub record IsLawful (Routes : (names : List Name) (plan to bytes : List ℕ) →
   pub spells : Spells records entries
   pub lawful : Lawful Routes (events_of entries)
 
--- this is the state of the events of these records. It says what they say only where they are lawful:
--- they are, if what was read of the log beside its journal is what was written
+-- This is the state of the events of these records, if they spell any. These are lawful, if what was read of the log beside its journal is what was written.
+-- Of a log that was found on a disk no more is known: its records count, and they spell what they spell
 pub record IsInState (Routes : (names : List Name) (plan to bytes : List ℕ) → Type 0) (faithful : Type 0)
     (records : List (List ℕ)) (s : State) : Type 0 where
-  pub entries : List Entry
-  pub spells : Spells records entries
-  pub is : s ≡ state_of (events_of entries)
-  pub lawful : faithful → Lawful Routes (events_of entries)
+  pub counted : s.next ≡ length records
+  pub is : (entries : List Entry) → Spells records entries → s ≡ state_of (events_of entries)
+  pub lawful : faithful → (entries : List Entry) → Spells records entries → Lawful Routes (events_of entries)
 
 -- these records show what no state can say of the event, if what was read is what was written
 abbrev pub IsSeenIn : (Routes : (names : List Name) (plan to bytes : List ℕ) → Type 0) → Type 0 → List (List ℕ) → Event → Type 0

@@ -43,6 +43,23 @@ impl<J: Naming> Look<J> {
     {
         self.place
     }
+
+    /// The same once more. It takes no memory.
+    pub fn again(&self) -> Look<J>
+        ensures { result ≡ self.now }
+    {
+        Look {
+            place: self.place,
+            front: self.front.again(),
+        }
+    }
+
+    /// What was seen of the journal.
+    pub fn front(&self) -> &Front<J>
+        ensures { result.now ≡ self.now.history }
+    {
+        &self.front
+    }
 }
 
 impl<J: Naming, S: Storage + Drop, R: Rules> Ledger<J, S, R> {

@@ -13,7 +13,7 @@ ghost use Rattle.gw_ledger.specs.own.Steps.{IsAhead};
 use crate::fault::LedgerFault;
 use gw_due::laws::Rules;
 use gw_due::{Entry, Event, SpellFault, State, StateFault, spell};
-use gw_journal::{Desk, Done, Job, JournalFault, Naming, Opened, Receipt, Storage, Ticket};
+use gw_journal::{Desk, Done, Front, Job, JournalFault, Naming, Opened, Receipt, Storage, Ticket};
 use std::alloc::Global;
 use std::marker::{Model, PhantomData};
 
@@ -132,13 +132,14 @@ fn note_margin<J: Naming>(last: &mut Option<Ticket<J>>, ticket: &Ticket<J>, even
 }
 
 impl<J: Naming, S: Storage + Drop, R: Rules> Ledger<J, S, R> {
-    /// The ledger of a log that has these records, which spell lawful events. This is their state.
+    /// The ledger of a log that has these records. Where they spell events, these are lawful, and this is their state.
     ///
     /// The next file is begun where the last one has more bytes than `limit`.
     pub fn open(alloc: Global, opened: Opened, storage: S, state: State, limit: usize) -> Self
         requires book { opened.seen.book ≡ J.book }
         requires stands { S.stands storage J.before }
         requires state { IsInState R.routes ⊤ J.before state }
+        requires numbers { IfSome state.last (λ n. n < state.margin) }
         requires tells { (records : List (List ℕ)) (bytes : List ℕ) → Tells records bytes → S.tells records bytes }
         ensures history { result.desk.history ≡ [] }
         ensures state { result.state ≡ state }
@@ -253,6 +254,13 @@ impl<J: Naming, S: Storage + Drop, R: Rules> Ledger<J, S, R> {
         ensures failed { IsFalse result → (self.new ≡ self.old) ⊎ IsSome self.new.desk.fault }
     {
         self.desk.note(place, bytes)
+    }
+
+    /// What was seen of the journal: all of it.
+    pub fn front(&self) -> &Front<J>
+        ensures { result.now ≡ self.now.desk.history }
+    {
+        self.desk.front()
     }
 
     /// Why nothing more is asked of the journal, if that is so.

@@ -60,11 +60,36 @@ impl<J: Naming> Model for Found<J> {
 }
 
 impl<J: Naming> Found<J> {
+    ghost use Rattle.std.specs.Prelude.{◌≡◌};
+    ghost use Rattle.gw_ledger.specs.Finding.{IsFound};
+
     /// The place at which it is due.
     pub fn place(&self) -> u64
-        ensures { result ≡ self.now.place }
+        ensures place { result ≡ self.now.place }
+        ensures found { IsFound J.before self.now }
     {
         self.place
+    }
+
+    /// The number of its receiver.
+    pub fn receiver(&self) -> u32
+        ensures { result ≡ self.now.receiver }
+    {
+        self.receiver
+    }
+
+    /// From where on it is the first that is due.
+    pub fn from(&self) -> u64
+        ensures { result ≡ self.now.from }
+    {
+        self.from
+    }
+
+    /// What was seen of the journal.
+    pub fn front(&self) -> &Front<J>
+        ensures { result.now ≡ self.now.history }
+    {
+        &self.front
     }
 }
 
@@ -171,6 +196,7 @@ impl<J: Naming, S: Storage + Drop, R: Rules> Ledger<J, S, R> {
         found: &Found<J>,
         how: How<'_>,
     ) -> Result<Ticket<J>, LedgerFault>
+        ensures ok { OnOk result (IsCurrent self.old found.now) }
         ensures current { IsCurrent self.old found.now → Puts J.before self.old self.new
             (timed time (was_passed found.now (view.how how.entry))) result }
         ensures stale { IsNone self.old.desk.fault → (IsCurrent self.old found.now → ⊥) →

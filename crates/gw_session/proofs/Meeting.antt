@@ -9,7 +9,7 @@ use Rattle.gw_stream.specs.Streams.{Ends}
 use Rattle.gw_stream.proofs.Exchanging.{ends_seen}
 use Rattle.gw_crew.specs.Notes.{NoteSeen}
 use Rattle.gw_crew.specs.own.Turns.{Adds}
-use Rattle.gw_session.specs.Sessions.{Breaks, IsOutcome, SessionAll, SessionPart, Settles}
+use Rattle.gw_session.specs.Sessions.{Breaks, IsOutcome, SameNotes, SessionAll, SessionPart, Settles}
 use Rattle.gw_session.specs.own.Steps.{SameStamps}
 
 -- stamps that can be given are so from the first on
@@ -35,16 +35,22 @@ module _ {S N : Type 0} (name : S → N) (gives : S → List ℕ → Type 0) (no
   abbrev BreaksHere : S → S → Option (List SegmentValue) → Type 0
   BreaksHere s t what = (name t ≡ name s) × SameStamps (gives s) (gives t) × Breaks (noted s) (noted t) what
 
+  abbrev SecuresHere : S → S → Type 0
+  SecuresHere s t = (name t ≡ name s) × SameStamps (gives s) (gives t) × (noted t ≡ noted s)
+
   pub seen_at_door : (stream before after : Option (List ℕ)) (s t : S) (result : Result Counts RunFault)
-      → Ends (AllExchanged SettlesHere stream s t before after) (λ fault. SomeExchanged SettlesHere BreaksHere stream s t before after) result
+      → Ends (AllExchanged SettlesHere SecuresHere stream s t before after)
+      (λ fault. SomeExchanged SettlesHere SecuresHere BreaksHere (λ u v. ⊥) stream s t before after) result
       → (name t ≡ name s)
       × Ends (SessionAll (gives s) stream (noted s) (noted t) before after) (λ fault. SessionPart (gives s) stream (noted s) (noted t) before after) result
   seen_at_door stream before after s t result ends =
-      let seen = ends_seen SettlesHere (Settles (gives s)) BreaksHere Breaks noted (λ u. (name u ≡ name s) × SameStamps (gives s) (gives u))
+      let seen = ends_seen SettlesHere (Settles (gives s)) SecuresHere SameNotes BreaksHere Breaks (λ u v. ⊥) (λ u v. ⊥) noted (λ u. (name u ≡ name s) × SameStamps (gives s) (gives u))
       (λ u v place what outcome keeps is. (
         (is.0 ∙ keeps.0, same_stamps (gives s) (gives u) (gives v) keeps.1 is.1),
         settled_as (gives s) (gives u) (noted u) (noted v) place what outcome keeps.1 is.2,
       ))
+      (λ u v keeps is. ((is.0 ∙ keeps.0, same_stamps (gives s) (gives u) (gives v) keeps.1 is.1), is.2))
       (λ u v what keeps is. ((is.0 ∙ keeps.0, same_stamps (gives s) (gives u) (gives v) keeps.1 is.1), is.2))
+      (λ u v keeps never. absurd never)
       stream s t before after (refl, λ stamp. (λ given. given, λ given. given)) result ends in
       (seen.0.0, seen.1)

@@ -90,13 +90,17 @@ pub record Breaks (old new : List NoteSeen) (what : Option (List SegmentValue)) 
   pub cut : IsCutShort what notes
   pub noted : new ≡ old ++ notes
 
+-- nothing is noted where what was settled is secured
+abbrev pub SameNotes : List NoteSeen → List NoteSeen → Type 0
+SameNotes old new = new ≡ old
+
 -- all blocks of the stream were settled in turn: the notes grew by theirs, and known bytes by their answers
 abbrev pub SessionAll : (List ℕ → Type 0) → Option (List ℕ) → List NoteSeen → List NoteSeen → Option (List ℕ) → Option (List ℕ) → Tail → Counts → Type 0
-SessionAll Gives = AllExchanged (Settles Gives)
+SessionAll Gives = AllExchanged (Settles Gives) SameNotes
 
 -- the first blocks of the stream were settled in turn, and the next one perhaps begun: known bytes grew by a beginning of their answers
 abbrev pub SessionPart : (List ℕ → Type 0) → Option (List ℕ) → List NoteSeen → List NoteSeen → Option (List ℕ) → Option (List ℕ) → Type 0
-SessionPart Gives = SomeExchanged (Settles Gives) Breaks
+SessionPart Gives = SomeExchanged (Settles Gives) SameNotes Breaks (λ old new. ⊥)
 
 -- what a session did, by its result: all blocks were settled, or the first ones
 abbrev pub IsSession : {D C R W : Type 0} → door.Ghosts D → clock.Ghosts C → source.Ghosts R → sink.Ghosts W → D → D → C → R → W → W

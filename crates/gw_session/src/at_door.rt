@@ -2,7 +2,7 @@
 use crate::arrival::settle;
 use gw_crew::{Clock, Door};
 use gw_er7::Message;
-use gw_stream::{Judge, Outcome};
+use gw_stream::{Judge, Outcome, Withheld};
 use std::alloc::{AllocError, Global};
 
 /// Judges messages as the gate behind a door settles them, and answers them with the stamps of a clock.
@@ -23,6 +23,11 @@ impl<D: Door, C: Clock> Judge for AtDoor<'_, D, C> {
     ghost breaks = { λ s t what. (t.door.ghost_name ≡ s.door.ghost_name) × SameStamps (C.gives s.clock.now) (C.gives t.clock.now)
         × Breaks (D.noted s.door.now) (D.noted t.door.now) what };
 
+    ghost secures = { λ s t. (t.door.ghost_name ≡ s.door.ghost_name) × SameStamps (C.gives s.clock.now) (C.gives t.clock.now)
+        × (D.noted t.door.now ≡ D.noted s.door.now) };
+
+    ghost withholds = { λ s t. ⊥ };
+
     #[tactic(auto, using(crate::proofs::Meeting::settled_so))]
     fn judge(
         &mut self,
@@ -36,5 +41,10 @@ impl<D: Door, C: Clock> Judge for AtDoor<'_, D, C> {
             number: settled.number,
             stamp: self.clock.stamp(),
         })
+    }
+
+    // (a gate in memory keeps nothing)
+    fn secure(&mut self) -> Result<(), Withheld> {
+        Ok(())
     }
 }

@@ -1,7 +1,7 @@
 -- The faults that end a run.
 use Rattle.std.specs.Prelude.{ℕ}
 use Rattle.gw_stream.specs.declared.fault.RunFault.{RunFault}
-use Rattle.gw_stream.specs.declared.fault.RunFault.TheVariants.{Memory, Read, Write, Frame, Line, Turns, Unsettled}
+use Rattle.gw_stream.specs.declared.fault.RunFault.TheVariants.{Memory, Read, Write, Frame, Line, Turns, Unsettled, Withheld}
 
 -- the number of a fault
 abbrev pub number_of : RunFault → ℕ
@@ -12,3 +12,4 @@ number_of (Frame number) = 4
 number_of (Line n) = 5
 number_of Turns = 6
 number_of Unsettled = 7
+number_of Withheld = 8

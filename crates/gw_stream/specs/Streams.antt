@@ -3,7 +3,7 @@ use Rattle.std.specs.Prelude.{◌≡◌, ℕ, List, ◌++◌, Option, Result, Ok
 use Rattle.gw_mllp.specs.Stream.{Blocks, Tail, Between, Within, Overlong}
 use Rattle.gw_stream.specs.declared.counts.Counts.{Counts}
 use Rattle.gw_stream.specs.declared.fault.RunFault.{RunFault}
-use Rattle.gw_stream.specs.declared.fault.RunFault.TheVariants.{Memory, Read, Write, Frame, Turns}
+use Rattle.gw_stream.specs.declared.fault.RunFault.TheVariants.{Memory, Read, Write, Frame, Turns, Withheld}
 
 -- these are the first blocks of the stream
 pub record HasFirst (stream : List ℕ) (contents : List (List ℕ)) : Type 0 where
@@ -24,3 +24,4 @@ pub data Ends (All : Tail → Counts → Type 0) (Part : RunFault → Type 0) : 
   read : Part Read → Ends All Part (Err Read)
   write : Part Write → Ends All Part (Err Write)
   turns : Part Turns → Ends All Part (Err Turns)
+  withheld : Part Withheld → Ends All Part (Err Withheld)

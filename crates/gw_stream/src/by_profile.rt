@@ -3,7 +3,7 @@ ghost use Rattle.std.specs.Prelude.{IfOk, ◌≡◌};
 ghost use Rattle.gw_stream.specs.Answers.{IsSaid, ValidatedBy};
 ghost use Rattle.gw_stream.specs.own.Gathered.{ProfileSettles};
 
-use crate::judge::{Judge, Outcome};
+use crate::judge::{Judge, Outcome, Withheld};
 use gw_ack::{INTERNAL, Reply, Stamp};
 use gw_er7::Message;
 use gw_profile::Profile;
@@ -40,6 +40,10 @@ impl Judge for ByProfile {
 
     ghost breaks = { λ s t what. t ≡ s };
 
+    ghost secures = { λ s t. t ≡ s };
+
+    ghost withholds = { λ s t. ⊥ };
+
     fn judge(
         &mut self,
         alloc: Global,
@@ -52,5 +56,10 @@ impl Judge for ByProfile {
             number,
             stamp: self.stamp,
         })
+    }
+
+    // (it keeps nothing)
+    fn secure(&mut self) -> Result<(), Withheld> {
+        Ok(())
     }
 }

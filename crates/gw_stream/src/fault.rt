@@ -6,7 +6,7 @@ ghost use Rattle.gw_stream.specs.Faults.{number_of};
 use std::alloc::{AllocError, AllocFailed};
 use thiserror::Error;
 
-/// Why a run ended early. The numbers are 1 to 7, in this order.
+/// Why a run ended early. The numbers are 1 to 8, in this order.
 #[derive(Clone, Copy, Debug, PartialEq, Eq, Error)]
 pub enum RunFault {
     /// A growth was refused.
@@ -30,6 +30,9 @@ pub enum RunFault {
     /// Notes don't agree with the journal.
     #[error("the notes don't agree with the journal")]
     Unsettled,
+    /// What was accepted isn't known to be kept, so that its answers were withheld.
+    #[error("what was accepted isn't known to be kept")]
+    Withheld,
 }
 
 impl RunFault {
@@ -45,6 +48,7 @@ impl RunFault {
             RunFault::Line { .. } => 5,
             RunFault::Turns => 6,
             RunFault::Unsettled => 7,
+            RunFault::Withheld => 8,
         }
     }
 }

@@ -37,11 +37,14 @@ fn gather<J: Judge>(
 }
 
 // Writes what was gathered when an allocation failed, and gives the fault that ends the run.
-#[tactic(auto, using(crate::proofs::Gathering::sent_so, crate::proofs::Gathering::cut_so))]
-fn send_last<W: Sink>(writer: &mut W, gathered: &[u8]) -> RunFault
+#[tactic(auto, using(crate::proofs::Gathering::sent_so, crate::proofs::Gathering::cut_so, crate::proofs::Gathering::held_so))]
+fn send_last<J: Judge, W: Sink>(judge: &mut J, writer: &mut W, gathered: &[u8]) -> RunFault
     requires works { W.has_failed writer.old ≡ false }
-    ensures { SentAtLast (W.contents writer.old) (W.contents writer.new) gathered.now (W.has_failed writer.new) result }
+    ensures { SentAtLast J.secures J.withholds judge.old judge.new (W.contents writer.old) (W.contents writer.new) gathered.now (W.has_failed writer.new) result }
 {
+    let Ok(()) = judge.secure() else {
+        return RunFault::Withheld;
+    };
     match send_all(writer, gathered) {
         Ok(()) => RunFault::Memory,
         Err(Failed) => RunFault::Write,
@@ -50,11 +53,13 @@ fn send_last<W: Sink>(writer: &mut W, gathered: &[u8]) -> RunFault
 
 /// Answers each block of a stream as the judge settles it. At the end of the stream it gives its counts.
 ///
+/// No answer goes out before the judge has secured what it settled up to it: what was written is a beginning of the answers to what was secured.
+///
 /// Answers are gathered, and written before the next read and before each fault. So a sender gets one write for what one read brought,
 /// and no answer waits for input.
 ///
 /// The faults are `Memory`, `Read`, `Write`, `Frame(2)` at a block that is too long, `Frame(3)` at the end of the stream within a block,
-/// and `Turns` after 1,000,000 reads.
+/// `Turns` after 1,000,000 reads, and `Withheld` where the judge can't secure what it settled.
 pub fn answer_blocks<J: Judge, R: Source, W: Sink>(
     alloc: Global,
     judge: &mut J,
@@ -63,9 +68,11 @@ pub fn answer_blocks<J: Judge, R: Source, W: Sink>(
 ) -> Result<Counts, RunFault>
     requires reads { R.has_failed reader.old ≡ false }
     requires writes { W.has_failed writer.old ≡ false }
-    ensures ends { EndsExchanged J.settles J.breaks (R.remaining reader.old) judge.old judge.new (W.contents writer.old) (W.contents writer.new) result }
+    ensures ends { EndsExchanged J.settles J.secures J.breaks J.withholds
+        (R.remaining reader.old) judge.old judge.new (W.contents writer.old) (W.contents writer.new) result }
     ensures read { IsErrOf result RunFault.Read ↔ IsTrue (R.has_failed reader.new) }
     ensures write { IsErrOf result RunFault.Write ↔ IsTrue (W.has_failed writer.new) }
+    ensures withheld { IsErrOf result RunFault.Withheld → (mid : J) × J.withholds mid judge.new }
     ensures turns { IsErrOf result RunFault.Turns → ReadsTooOften (R.remaining reader.old) (R.reads reader.old) (R.reads reader.new) }
     ensures most { ReadUpTo 1000000 (R.reads reader.old) (R.reads reader.new) }
 {
@@ -76,9 +83,12 @@ pub fn answer_blocks<J: Judge, R: Source, W: Sink>(
         match blocks.ready() {
             Some(content) => match gather(alloc, judge, &mut counts, &mut gathered, content) {
                 Ok(()) => continue,
-                Err(_) => return Err(send_last(writer, &gathered)),
+                Err(_) => return Err(send_last(judge, writer, &gathered)),
             },
             None => {
+                let Ok(()) = judge.secure() else {
+                    return Err(RunFault::Withheld);
+                };
                 let Ok(()) = send_all(writer, &gathered) else {
                     return Err(RunFault::Write);
                 };

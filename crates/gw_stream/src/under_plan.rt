@@ -7,7 +7,7 @@ ghost use Rattle.gw_stream.specs.Served.{Routed};
 ghost use Rattle.gw_stream.specs.own.Prepared.{AreWithin, Prepares, PlanSettles};
 
 use crate::delivery::{Delivery, prepare_deliveries};
-use crate::judge::{Judge, Outcome};
+use crate::judge::{Judge, Outcome, Withheld};
 use gw_ack::{INTERNAL, Reply, Stamp};
 use gw_er7::Message;
 use gw_plan::{Plan, Refusal, admit};
@@ -52,6 +52,10 @@ impl Judge for UnderPlan {
 
     ghost breaks = { λ s t what. Unit {0} };
 
+    ghost secures = { λ s t. Unit {0} };
+
+    ghost withholds = { λ s t. ⊥ };
+
     fn judge(
         &mut self,
         alloc: Global,
@@ -65,5 +69,10 @@ impl Judge for UnderPlan {
             number,
             stamp: self.stamp,
         })
+    }
+
+    // (it keeps nothing)
+    fn secure(&mut self) -> Result<(), Withheld> {
+        Ok(())
     }
 }

@@ -1,5 +1,5 @@
 -- How a run that gathers its answers comes on.
-use Rattle.std.specs.Prelude.{◌≡◌, ℕ, ◌+◌, Bool, true, false, List, ◌++◌, length, map, Option, Result, IfOk}
+use Rattle.std.specs.Prelude.{◌≡◌, ℕ, ◌+◌, ◌≤◌, Bool, true, false, List, ◌++◌, length, map, take, Option, Result, IfOk}
 use Rattle.std.specs.Io.KnownBytes.{Appends}
 use Rattle.gw_ack.specs.Headers.{HeaderValue}
 use Rattle.gw_mllp.specs.Stream.{block}
@@ -7,7 +7,7 @@ use Rattle.gw_stream.specs.declared.by_profile.ByProfile.{ByProfile}
 use Rattle.gw_stream.specs.declared.counts.Counts.{Counts}
 use Rattle.gw_stream.specs.declared.exchange.Answer as program
 use Rattle.gw_stream.specs.declared.fault.RunFault.{RunFault}
-use Rattle.gw_stream.specs.declared.fault.RunFault.TheVariants.{Memory, Write}
+use Rattle.gw_stream.specs.declared.fault.RunFault.TheVariants.{Memory, Write, Withheld}
 use Rattle.gw_stream.specs.declared.judge.Outcome.{Outcome}
 use Rattle.gw_stream.specs.Answers.{Answer, IsReadAs, IsSaidUnder, IsSettled, Message, ValidatedBy, header_for}
 use Rattle.gw_stream.specs.Counted.{IsTotal, nothing, with_answer}
@@ -28,10 +28,12 @@ pub record ProfileSettles (old new : ByProfile) (number : ℕ) (what : Option Me
   pub same : new ≡ old
   pub says : IsSaidUnder (ValidatedBy old.profile) old.stamp number what outcome
 
--- what was gathered when an allocation failed went out, whole or in part
-pub data SentAtLast (before after : Option (List ℕ)) (gathered : List ℕ) : Bool → RunFault → Type 0 where
-  sent : Appends before after gathered → SentAtLast before after gathered false Memory
-  cut : SendsPart before after gathered → SentAtLast before after gathered true Write
+-- what was gathered when an allocation failed was secured and went out, whole or in part; or it was withheld
+pub data SentAtLast {S : Type 0} (Secures Withholds : S → S → Type 0) (old new : S) (before after : Option (List ℕ)) (gathered : List ℕ)
+    : Bool → RunFault → Type 0 where
+  sent : Secures old new → Appends before after gathered → SentAtLast Secures Withholds old new before after gathered false Memory
+  cut : Secures old new → SendsPart before after gathered → SentAtLast Secures Withholds old new before after gathered true Write
+  held : Withholds old new → after ≡ before → SentAtLast Secures Withholds old new before after gathered false Withheld
 
 module _ {S : Type 0} (Settles : S → S → ℕ → Option Message → Outcome → Type 0) where
   -- a content was settled, its answer's block gathered and counted
@@ -41,14 +43,17 @@ module _ {S : Type 0} (Settles : S → S → ℕ → Option Message → Outcome 
     pub gathered : after ≡ before ++ block answer.content
     pub counted : c' ≡ with_answer answer.code c
 
-  -- all blocks that were given so far were settled, and their answers' blocks written but for those that are gathered
-  pub record Progress (old new : S) (left : Option (List ℕ)) (reads : ℕ) (here : Place) (before after : Option (List ℕ)) (gathered : List ℕ)
-      (counts : Counts) : Type 0 where
+  -- All blocks that were given so far were settled, and their answers' blocks written but for those that are gathered: those that are secured.
+  pub record Progress (Secures : S → S → Type 0) (old new : S) (left : Option (List ℕ)) (reads : ℕ) (here : Place) (before after : Option (List ℕ))
+      (gathered : List ℕ) (counts : Counts) : Type 0 where
     pub done : List Exchange
-    pub each : Exchanges Settles old done new
+    pub kept : ℕ
+    pub each : Exchanges Settles Secures old kept done new
+    pub within : kept ≤ length done
     pub walks : Walks left reads here (map content_of done)
     pub sent : List ℕ
     pub written : Appends before after sent
+    pub out : sent ≡ blocks_of (take kept done)
     pub whole : blocks_of done ≡ sent ++ gathered
     pub counted : counts ≡ with_answers done nothing
     pub number : counts.answered ≡ length done

@@ -18,7 +18,7 @@ use gw_forward::Barrier;
 use gw_gate::{Event, Reply};
 use gw_run::{Clock as Stamps, Door, Note, Phase};
 use gw_session::session;
-use gw_stream::{Counts, Judge, Outcome, Reads, RunFault, Writes, answer_blocks};
+use gw_stream::{Counts, Judge, Outcome, Reads, RunFault, Withheld, Writes, answer_blocks};
 use std::alloc::{AllocError, Global};
 use std::io::Eprint;
 use std::net::{TcpListener, TcpStream};
@@ -96,6 +96,10 @@ impl<R: Clock> Judge for TurnedAway<'_, R> {
 
     ghost breaks = { λ _ _ _. ⊤ };
 
+    ghost secures = { λ _ _. ⊤ };
+
+    ghost withholds = { λ _ _. ⊥ };
+
     fn judge(
         &mut self,
         _alloc: Global,
@@ -107,6 +111,11 @@ impl<R: Clock> Judge for TurnedAway<'_, R> {
             number: 0,
             stamp: self.clock.stamp(),
         })
+    }
+
+    // (nothing is accepted)
+    fn secure(&mut self) -> Result<(), Withheld> {
+        Ok(())
     }
 }
 

@@ -10,7 +10,7 @@ invariant-each g l =
     record {
       reads : R.has_failed l.reader ≡ false;
       writes : W.has_failed l.writer ≡ false;
-      gathered : Progress g.J.Judge.settles l.fn.judge l.judge (R.remaining l.fn.reader) (R.reads l.fn.reader) (place R l.reader l.blocks)
+      gathered : Progress g.J.Judge.settles g.J.Judge.secures l.fn.judge l.judge (R.remaining l.fn.reader) (R.reads l.fn.reader) (place R l.reader l.blocks)
           (W.contents l.fn.writer) (W.contents l.writer) l.gathered.items l.counts;
     }
 

@@ -11,6 +11,6 @@ pub invariant_of-result : goal.invariant_of-result
 invariant_of-result g c = (
   λ _. state_opened g.R.Rules.routes g.J.Naming.before c.open.result.history c.args.state c.open.ensures.history c.requires.state,
   c.requires.tells,
-  first_number g.R.Rules.routes g.J.Naming.before c.args.state c.max.result c.requires.state (let max = c.max.ensures in let margin = c.margin-margin.ensures in omega (arith, max, margin)),
+  first_number c.args.state.last c.args.state.margin c.max.result (let max = c.max.ensures in let margin = c.margin-margin.ensures in omega (arith, max, margin)) c.requires.numbers,
   tt,
 )

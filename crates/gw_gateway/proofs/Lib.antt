@@ -1,0 +1,5 @@
+pub mod Arriving
+pub mod Joining
+pub mod Answering
+pub mod Naming
+pub mod Routing
