@@ -1,12 +1,12 @@
 -- What a crash leaves of a batch that is written behind the last one.
-use Rattle.std.proofs.Common.{◌≡◌, ◌≢◌, ◌⊎◌, inl, inr, ⊎_elim, refl, ℕ, zero, suc, ◌+◌, ◌<◌, ◌≤◌, ◌^◌, List, [], ◌∷◌, ◌++◌, length, drop, sym, ◌∙◌, ap, subst, arith, append_assoc, length-append}
+use Rattle.std.proofs.Common.{◌≡◌, ◌≢◌, ◌⊎◌, inl, inr, refl, ℕ, ◌≤◌, List, [], ◌∷◌, ◌++◌, length, sym, ◌∙◌, ap, subst, arith, append_assoc, length-append}
 use Rattle.std.proofs.lemmas.Bool.{cases_eq}
 use Rattle.std.proofs.lemmas.List.{append-nil}
 use Rattle.gw_log.specs.Disk.{IsMixed}
-use Rattle.gw_log.specs.File.{item, nonzero, counted, body, blocks, batch, AreShort, IsWhole, ends_here, goes_on, IsUnsynced, IsShut, Has}
+use Rattle.gw_log.specs.File.{item, nonzero, counted, body, blocks, batch, AreShort, IsWhole, ends_here, goes_on, IsUnsynced, Has}
 use Rattle.gw_log.specs.own.Steps.{HasAdded}
-use Rattle.gw_log.proofs.Losing.{lost_item, lost_same, mixed_all}
-use Rattle.gw_log.proofs.Ends.{shut, whole_some, whole_more}
+use Rattle.gw_log.proofs.Losing.{lost_item, lost_same}
+use Rattle.gw_log.proofs.Ends.{shut, whole_some}
 
 pub batch_is : (close : ℕ) (r : List ℕ) (more : List (List ℕ)) → batch close (r ∷ more) ≡ body r ++ (blocks more ++ close ∷ [])
 batch_is close r more = append_assoc (body r) (blocks more) (close ∷ [])
@@ -107,11 +107,11 @@ module _ (close gate : ℕ) (all more : List (List ℕ)) (left file : List ℕ) 
   all_there [] none same = old (λ whole. whole_some left whole (none_written none))
   all_there (r ∷ rs) some same = elim (cases_eq close 2) [
     | inl two ↦ inr (
-        two,
-        has_shut all more gate [] file differs short fits
-            (is ∙ ap (λ (l : List ℕ). blocks all ++ gate ∷ l) (same ∙ ap (λ (n : ℕ). batch n more) two ∙ sym (append-nil (batch 2 more))))
-            (omega (arith, ap length some)),
-      )
+      two,
+      has_shut all more gate [] file differs short fits
+          (is ∙ ap (λ (l : List ℕ). blocks all ++ gate ∷ l) (same ∙ ap (λ (n : ℕ). batch n more) two ∙ sym (append-nil (batch 2 more))))
+          (omega (arith, ap length some)),
+    )
     | inr not ↦ old (λ whole. not (whole_same close more left fits mixed whole).0)
   ]
 

@@ -1,6 +1,6 @@
 -- What a crash leaves of a file in each step of a call.
 use Rattle.std.proofs.Common.{◌≡◌, ◌≢◌, ◌⊎◌, inl, inr, refl, ℕ, ◌+◌, ◌-◌, ◌≤◌, min, List, [], ◌∷◌, ◌++◌, length, take, drop}
-use Rattle.std.proofs.Common.{sym, ◌∙◌, ap, subst, arith, append_assoc, length-append, length-drop, take-append-drop}
+use Rattle.std.proofs.Common.{sym, ◌∙◌, ap, subst, arith, append_assoc, length-append, take-append-drop}
 use Rattle.std.proofs.Math.Nat.{le-min}
 use Rattle.std.proofs.lemmas.Bool.{cases_eq}
 use Rattle.std.proofs.lemmas.List.{take_at, drop_at, take_all, drop_all, append-nil}
@@ -9,8 +9,8 @@ use Rattle.gw_log.specs.File.{blocks, batch, AreShort, IsWhole, IsUnsynced, IsSh
 use Rattle.gw_log.specs.State.{at_rest, staged}
 use Rattle.gw_log.specs.own.Steps.{BeginsStaged, HasAdded, UpTo}
 use Rattle.gw_log.proofs.Losing.{mixed_all}
-use Rattle.gw_log.proofs.Ends.{shut, at_most_one, front_unsynced, take_past, blocks-append, short-append}
-use Rattle.gw_log.proofs.Batches.{batch_size, opened_is, batch_whole, whole_same, has_unsynced, has_lone, has_shut, torn_batch}
+use Rattle.gw_log.proofs.Ends.{shut, front_unsynced, take_past, blocks-append, short-append}
+use Rattle.gw_log.proofs.Batches.{batch_size, opened_is, whole_same, has_unsynced, has_lone, has_shut, torn_batch}
 
 -- ---- a write
 

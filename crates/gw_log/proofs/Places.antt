@@ -6,7 +6,7 @@ use Rattle.std.specs.Prelude.{Option, Some, None, IfSome, IfNone, Vec, Bool, tru
 use Rattle.std.specs.declared.alloc.Global.{Global}
 use Rattle.std.proofs.lemmas.Bool.{eqb-true}
 use Rattle.std.proofs.lemmas.List.{drop_at, drop-drop, append-nil}
-use Rattle.gw_log.specs.File.{nonzero, item, sized, counted, body, blocks, HasNoRecord, HasRecordAt}
+use Rattle.gw_log.specs.File.{nonzero, item, sized, body, blocks, HasNoRecord, HasRecordAt}
 use Rattle.gw_log.specs.Disk.{Files}
 use Rattle.gw_log.specs.State.{ReaderState, IsRead}
 use Rattle.gw_log.specs.own.Steps.{Begins, BeginsGated, HasNone, IsThere}
@@ -51,7 +51,7 @@ parts at file gate r more whole =
 -- where no record begins a part that is long enough, none stands there
 none_part : (at n : ℕ) (file part : List ℕ) → part ≡ take n (drop at file)
     → ((gate : ℕ) (r more : List ℕ) → length (item r) < 2 ^ 32
-        → drop at file ≡ gate ∷ to_be_bytes w64 (eight r) ++ to_be_bytes w32 (length (item r)) ++ more → length (1 ∷ body r) ≤ n)
+    → drop at file ≡ gate ∷ to_be_bytes w64 (eight r) ++ to_be_bytes w32 (length (item r)) ++ more → length (1 ∷ body r) ≤ n)
     → HasNoRecord part → HasNoRecord (drop at file)
 none_part at n file part is enough none gate r more short whole =
     let le = enough gate r (item r ++ more) short (parts at file gate r more whole) in
@@ -86,12 +86,15 @@ size_found bytes rest sizes behind gate count size is one two fits g n r more sh
 -- a copy of the record that begins behind a gate
 pub gated : (bytes rest r copy more : List ℕ) (gate : ℕ) → bytes ≡ gate ∷ rest → Begins rest r more → copy ≡ r
     → (behind : List ℕ) × BeginsGated bytes copy behind (nat_eq gate 1)
-gated bytes rest r copy more gate is begins same = subst (λ (l : List ℕ). (behind : List ℕ) × BeginsGated bytes l behind (nat_eq gate 1)) (sym same) (more, record {
-  gate = gate;
-  whole = is ∙ ap (λ (l : List ℕ). gate ∷ l) begins.whole;
-  short = begins.short;
-  opened = eqb-true gate 1;
-})
+gated bytes rest r copy more gate is begins same = subst (λ (l : List ℕ). (behind : List ℕ) × BeginsGated bytes l behind (nat_eq gate 1)) (sym same) (
+  more,
+  record {
+    gate = gate;
+    whole = is ∙ ap (λ (l : List ℕ). gate ∷ l) begins.whole;
+    short = begins.short;
+    opened = eqb-true gate 1;
+  },
+)
 
 -- where none begins behind the gate, none stands there
 pub none_gated : (bytes rest : List ℕ) (gate : ℕ) → bytes ≡ gate ∷ rest → HasNone rest → HasNoRecord bytes

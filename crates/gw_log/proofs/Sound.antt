@@ -1,20 +1,18 @@
 -- What the steps of a call make of the files of a disk.
-use Rattle.std.proofs.Common.{◌≡◌, ◌≢◌, inl, inr, ℕ, ◌+◌, ◌≤◌, ◌<◌, ◌^◌, List, [], ◌∷◌, ◌++◌, length, drop, take, get_or, refl, sym, ◌∙◌, ap, subst, arith}
+use Rattle.std.proofs.Common.{◌≡◌, ◌≢◌, inl, inr, ℕ, ◌+◌, ◌≤◌, ◌<◌, ◌^◌, List, [], ◌∷◌, ◌++◌, length, take, get_or, refl, sym, ◌∙◌, ap, subst, arith}
 use Rattle.std.specs.Prelude.{Vec}
 use Rattle.std.specs.declared.alloc.Global.{Global}
-use Rattle.std.proofs.Common.{append_assoc, length-append}
 use Rattle.std.proofs.lemmas.Bool.{cases_eq}
 use Rattle.std.proofs.lemmas.List.{append-nil, take_more, map-append}
 use Rattle.gw_log.specs.Disk.{Files, Changes, IsWritten, Torn, Cut, After, Follows, Only, LeavesOnly}
 use Rattle.gw_log.specs.File.{item, body, blocks, batch, AreShort, Has, HasAs, HasEither, HasOrIs}
 use Rattle.gw_log.specs.State.{staged, IsStaged, Stands, SegmentState, records_of}
 use Rattle.gw_log.specs.own.Steps.{BeginsStaged, HasAdded, UpTo, IsAtRest}
-use Rattle.gw_log.proofs.Losing.{mixed_all}
 use Rattle.gw_log.proofs.Moments.{only_of, weaker}
 use Rattle.gw_log.proofs.Ends.{blocks-append, short-append}
-use Rattle.gw_log.proofs.Batches.{batch_size, has_unsynced, has_lone, has_shut}
+use Rattle.gw_log.proofs.Batches.{batch_size, has_lone, has_shut}
 use Rattle.gw_log.proofs.Crash.{first_crash, first_done, still, gate_crash, gate_done, new_end, at_gate, alone, some_last, none_last, end_crash, end_done}
-use Rattle.gw_log.proofs.Crash.{cut_alone, cut_shut, torn_alone, torn_shut, done_alone, done_shut, short_all}
+use Rattle.gw_log.proofs.Crash.{torn_alone, torn_shut, short_all}
 use Rattle.gw_log.proofs.Ways.{same_has}
 
 -- a file of which nothing is in motion, after a step

@@ -1,4 +1,4 @@
-use Rattle.std.proofs.Common.{◌≡◌, ◌≤◌, [], ◌∙◌, inl, ap, refl, arith}
+use Rattle.std.proofs.Common.{◌≤◌, inl, ap, refl, arith}
 use Rattle.gw_log.specs.State.{records_of}
 use Rattle.gw_log.specs.Chain.{LogState}
 use Rattle.gw_log.proofs.Moments.{weaker, stood}

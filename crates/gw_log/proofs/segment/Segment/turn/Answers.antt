@@ -1,4 +1,4 @@
-use Rattle.std.proofs.Common.{◌≡◌, ◌≤◌, ℕ, List, [], ◌∷◌, ◌++◌, length, drop, sym, ◌∙◌, ap, refl, arith}
+use Rattle.std.proofs.Common.{ℕ, List, [], ◌∷◌, ◌++◌, drop, ◌∙◌, ap, refl, arith}
 use Rattle.gw_log.specs.State.{records_of}
 use Rattle.gw_log.proofs.Moments.{weaker, joined, stood}
 use Rattle.gw_log.proofs.Sound.{has_stands, has_begun}
