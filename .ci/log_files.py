@@ -13,8 +13,14 @@ def text(value):
 # Records, in files
 
 
-def block(record, gate=b"\x01"):
-    return gate + number(32 + len(record), 4) + hashlib.sha256(record).digest() + record
+OPEN, SHUT, END = b"\x01", b"\x02", b"\x00"
+
+
+def block(record, gate=OPEN):
+    """A record behind its gate, its count, its length and its digest. The count is 2^64 - 1, less how many bytes behind it are not 0."""
+    item = hashlib.sha256(record).digest() + record
+    sized = number(len(item), 4) + item
+    return gate + number(2**64 - 1 - sum(byte != 0 for byte in sized)) + sized
 
 
 def head(file, first, before, oldest=1, log=7, checkpoint=b""):
@@ -23,17 +29,17 @@ def head(file, first, before, oldest=1, log=7, checkpoint=b""):
 
 def open_file(head, records):
     """The last file: it isn't ended."""
-    return b"".join(map(block, [head, *records])) + b"\0"
+    return b"".join(map(block, [head, *records])) + SHUT
 
 
 def ended_file(head, records):
-    return open_file(head, [*records, b""])
+    return b"".join(map(block, [head, *records, b""])) + END
 
 
-def pending(records):
-    """What stands behind the records of a file while a batch is pending, whose gate is closed."""
+def batch(records, gate=SHUT, close=SHUT):
+    """What stands behind the records of a file where a batch was put behind them, whose gate isn't open yet."""
     first, *others = records
-    return block(first, b"\0") + b"".join(map(block, others)) + b"\0"
+    return block(first, gate) + b"".join(map(block, others)) + close
 
 
 def name(file):

@@ -1,5 +1,5 @@
 -- Journals through crashes.
-use Rattle.std.proofs.Common.{◌≡◌, refl, ◌⊎◌, inl, inr, ⊎_elim, ℕ, zero, suc, ◌-◌, ◌≤◌, ◌<◌, List, [], ◌∷◌, ◌++◌, length, take, drop, Option, None, Some, sym, ◌∙◌, ap, subst, arith}
+use Rattle.std.proofs.Common.{◌≡◌, refl, ◌⊎◌, inl, inr, ⊎_elim, ℕ, zero, suc, ◌-◌, ◌≤◌, ◌<◌, List, [], ◌∷◌, ◌++◌, length, take, sym, ◌∙◌, ap, subst, arith}
 use Rattle.std.proofs.Common.{append_assoc}
 use Rattle.std.proofs.lemmas.List.{append-nil}
 use Rattle.std.specs.List.{AllByRecursion}
@@ -40,16 +40,11 @@ begins_taken before history n le =
     let l = begins before history in subst (λ rs. IsPrefix before (take n rs)) (sym l.records) (take_past n before l.more le)
 
 -- one of those that begin with these
-begins_one : (before : List (List ℕ)) (next : Option (List ℕ)) (settled given : ℕ) (records all : List (List ℕ))
-    → IsPrefix before (take settled records) → IsPrefix before (take given records) → IsPrefix before records
-    → IsOneOf all (outcomes next settled given records) → IsPrefix before all
-begins_one before None settled given records all first second whole one =
+begins_one : (before : List (List ℕ)) (given : ℕ) (records all : List (List ℕ)) → IsPrefix before (take given records) → IsPrefix before records
+    → IsOneOf all (outcomes given records) → IsPrefix before all
+begins_one before given records all first whole one =
     ⊎_elim (λ is. subst (λ rs. IsPrefix before rs) (sym is) first) (λ rest.
-    ⊎_elim (λ is. subst (λ rs. IsPrefix before rs) (sym is) second) (λ no_more. absurd no_more) rest) one
-begins_one before (Some checkpoint) settled given records all first second whole one =
-    ⊎_elim (λ is. subst (λ rs. IsPrefix before rs) (sym is) first) (λ rest.
-    ⊎_elim (λ is. subst (λ rs. IsPrefix before rs) (sym is) second) (λ third.
-    ⊎_elim (λ is. subst (λ rs. IsPrefix before rs) (sym is) whole) (λ no_more. absurd no_more) third) rest) one
+    ⊎_elim (λ is. subst (λ rs. IsPrefix before rs) (sym is) whole) (λ no_more. absurd no_more) rest) one
 
 -- what each of these has, the one has
 has_one : (place : ℕ) (bytes : List ℕ) (left : List (List (List ℕ))) (all : List (List ℕ)) → AllByRecursion (λ records. IsIn place bytes records) left
@@ -68,7 +63,7 @@ module _ {D : Type 0} (tells : List (List ℕ) → List ℕ → Type 0) (honest 
       → StandsAt (Held tells honest seen may_leave) s place bytes → may_leave (disk_of s) c → HasAt tells s.id place bytes c
   receipt_outlives s place bytes c did at could = record {
     all = at.these;
-    kept = crash_leaves tells honest seen may_leave moment left_since s at.these at.pending c did at.stand could;
+    kept = crash_leaves tells honest seen may_leave moment left_since s at.these c did at.stand could;
     there = at.there;
   }
 
@@ -85,21 +80,19 @@ module _ {D : Type 0} (tells : List (List ℕ) → List ℕ → Type 0) (honest 
   at_rest before batch history s given settled c did t could =
       let log : Log = log_in before history in
       let l = begins before history in
-      has_more tells s.id c before (take settled log.records) (begins_taken before history settled (omega (arith, l.synced, t.synced)))
-      (crash_leaves tells honest seen may_leave moment left_since s (take settled log.records) (drop settled (take given log.records)) c did t.keeps could)
+      has_more tells s.id c before (take given log.records) (begins_taken before history given (omega (arith, l.synced, t.synced, t.order)))
+      (crash_leaves tells honest seen may_leave moment left_since s (take given log.records) c did t.keeps could)
 
   pub at_work : (before : List (List ℕ)) (job : JobState (StoredState D)) (new : StoredState D) (c : Files) → honest (disk_of new)
       → IsJob (Held tells honest seen may_leave) tells job (log_in before job.history)
-      → LeavesOne tells honest moment left_since job.storage new (outcomes job.next job.settled job.given (log_in before job.history).records)
+      → LeavesOne tells honest moment left_since job.storage new (outcomes job.given (log_in before job.history).records)
       → left_since (disk_of new) (moment (disk_of job.storage)) c → HasMore tells job.storage.id before c
   at_work before job new c did j one left =
       let log : Log = log_in before job.history in
       let l = begins before job.history in
       let k = (one.leaves did).each c left in
-      let t = j.holds in
       has_more tells job.storage.id c before k.all
-      (begins_one before job.next job.settled job.given log.records k.all (begins_taken before job.history job.settled (omega (arith, l.synced, t.synced)))
-      (begins_taken before job.history job.given (omega (arith, l.synced, t.synced, t.order))) (l.more, sym l.records) k.among) k.kept
+      (begins_one before job.given log.records k.all (begins_taken before job.history job.given (omega (arith, l.synced, j.synced))) (l.more, sym l.records) k.among) k.kept
 
 -- ---- in the files that a crash left
 

@@ -2,7 +2,7 @@
 use Rattle.std.proofs.Common.{◌≡◌, refl, inl, inr, ⊎_elim, ℕ, ◌+◌, ◌≤◌, List, [], ◌∷◌, ◌++◌, length, take, sym, ◌∙◌, ap, subst, arith}
 use Rattle.std.proofs.Common.{Bool, true, false, append_assoc, length-append}
 use Rattle.std.specs.Prelude.{IsTrue, IsFalse}
-use Rattle.gw_log.specs.Chain.{Head, LogState, Origin, Holds, IsEither, IsEitherOrNext, IsLog, IsFewer, HasRetired, IsLogOrFewer, AreBefore, none, more, next_head}
+use Rattle.gw_log.specs.Chain.{Head, LogState, Origin, Holds, IsEither, IsThisOrNext, IsLog, IsFewer, HasRetired, IsLogOrFewer, AreBefore, none, more, next_head}
 use Rattle.gw_log.specs.Disk.{Files, LeavesOnly}
 use Rattle.gw_log.proofs.Moments.{weaker}
 use Rattle.gw_journal.specs.Logs.{IsOneOf}
@@ -31,14 +31,14 @@ module _ (tells : List (List ℕ) → List ℕ → Type 0) where
   }
 
   -- with the next head, behind all of them
-  covers_next : (from : Origin) (head next : Head) (all kept those : List (List ℕ)) (checkpoint : List ℕ) → next.first ≡ length (all ++ those)
-      → next.checkpoint ≡ checkpoint → tells (all ++ those) checkpoint → Covers tells from head all kept → Covers tells from next (all ++ those) (kept ++ those)
-  covers_next from head next all kept those checkpoint place is told c = record {
+  covers_next : (from : Origin) (head next : Head) (all kept : List (List ℕ)) (checkpoint : List ℕ) → next.first ≡ length all
+      → next.checkpoint ≡ checkpoint → tells all checkpoint → Covers tells from head all kept → Covers tells from next all kept
+  covers_next from head next all kept checkpoint place is told c = record {
     gone = c.gone;
-    split = ap (λ rs. rs ++ those) c.split ∙ append_assoc c.gone kept those;
+    split = c.split;
     place = c.place;
-    told = subst (λ bytes. tells (take next.first (all ++ those)) bytes) (sym is)
-        (subst (λ rs. tells rs checkpoint) (sym (ap (λ n. take n (all ++ those)) place ∙ take_all (all ++ those))) told);
+    told = subst (λ bytes. tells (take next.first all) bytes) (sym is)
+        (subst (λ rs. tells rs checkpoint) (sym (ap (λ n. take n all) place ∙ take_all all)) told);
   }
 
   -- without the first file
@@ -67,22 +67,22 @@ module _ (tells : List (List ℕ) → List ℕ → Type 0) where
 
 module _ {D : Type 0} (tells : List (List ℕ) → List ℕ → Type 0) (honest : D → Type 0) (seen : D → Files) (may_leave : D → Files → Type 0)
     (moment : D → ℕ) (left_since : D → ℕ → Files → Type 0) where
-  abbrev HasThese : StoredState D → List (List ℕ) → List (List ℕ) → Type 0
-  HasThese s these those = IsHeld tells seen may_leave s these those
+  abbrev HasThese : StoredState D → List (List ℕ) → Type 0
+  HasThese s these = IsHeld tells seen may_leave s these
 
   -- where the last head's file begins
-  first_within : (s : StoredState D) (these those : List (List ℕ)) (h : HasThese s these those) → h.head.first ≤ length these
-  first_within s these those h =
+  first_within : (s : StoredState D) (these : List (List ℕ)) (h : HasThese s these) → h.head.first ≤ length these
+  first_within s these h =
       let says = head_says s.log.id (seen (disk_of s)) h.head h.from.number h.from.first h.from.before h.holds.front h.holds.ended in
       omega (arith, says.1, covers_length tells h.from h.head these h.kept h.covers, ap length h.holds.all, length-append h.holds.front h.holds.these)
 
   -- the log's number is its head's
-  its_id : (log : LogState D) (from : Origin) (head : Head) (kept those : List (List ℕ)) → Holds seen may_leave log from head kept those → head.id ≡ log.id
-  its_id log from head kept those h = (head_says log.id (seen log.segment.disk) head from.number from.first from.before h.front h.ended).0
+  its_id : (log : LogState D) (from : Origin) (head : Head) (kept : List (List ℕ)) → Holds seen may_leave log from head kept → head.id ≡ log.id
+  its_id log from head kept h = (head_says log.id (seen log.segment.disk) head from.number from.first from.before h.front h.ended).0
 
   -- how many records there are
-  next_place : (s : StoredState D) (these those : List (List ℕ)) (h : HasThese s these those) → s.log.first + s.log.count ≡ length (these ++ those)
-  next_place s these those h =
+  next_place : (s : StoredState D) (these : List (List ℕ)) (h : HasThese s these) → s.log.first + s.log.count ≡ length these
+  next_place s these h =
       let says = head_says s.log.id (seen (disk_of s)) h.head h.from.number h.from.first h.from.before h.holds.front h.holds.ended in
       omega (
         arith,
@@ -92,64 +92,63 @@ module _ {D : Type 0} (tells : List (List ℕ) → List ℕ → Type 0) (honest 
         covers_length tells h.from h.head these h.kept h.covers,
         ap length h.holds.all,
         length-append h.holds.front h.holds.these,
-        length-append these those,
       )
 
-  -- at `Ok` what was pending counts
-  pub held_more : (old new : StoredState D) (these those pending : List (List ℕ)) → new.id ≡ old.id → (honest (disk_of new) → honest (disk_of old))
-      → Held tells honest seen may_leave old these those
-      → ((from : Origin) (head : Head) (kept rest : List (List ℕ)) → Holds seen may_leave old.log from head kept rest → Holds seen may_leave new.log from head (kept ++ rest) pending)
-      → Held tells honest seen may_leave new (these ++ those) pending
-  held_more old new these those pending same back held run did =
+  -- at `Ok` it has a batch more
+  pub held_more : (old new : StoredState D) (these batch : List (List ℕ)) → new.id ≡ old.id → (honest (disk_of new) → honest (disk_of old))
+      → Held tells honest seen may_leave old these
+      → ((from : Origin) (head : Head) (kept : List (List ℕ)) → Holds seen may_leave old.log from head kept → Holds seen may_leave new.log from head (kept ++ batch))
+      → Held tells honest seen may_leave new (these ++ batch)
+  held_more old new these batch same back held run did =
       let h = held (back did) in
-      let now = run h.from h.head h.kept those h.holds in
+      let now = run h.from h.head h.kept h.holds in
       record {
         from = h.from;
         head = h.head;
-        kept = h.kept ++ those;
-        covers = covers_more tells h.from h.head these h.kept those (first_within old these those h) h.covers;
+        kept = h.kept ++ batch;
+        covers = covers_more tells h.from h.head these h.kept batch (first_within old these h) h.covers;
         holds = now;
-        id = sym (its_id new.log h.from h.head (h.kept ++ those) pending now) ∙ its_id old.log h.from h.head h.kept those h.holds ∙ h.id ∙ sym same;
+        id = sym (its_id new.log h.from h.head (h.kept ++ batch) now) ∙ its_id old.log h.from h.head h.kept h.holds ∙ h.id ∙ sym same;
       }
 
   -- the next file is begun
-  pub held_next : (old new : StoredState D) (these those : List (List ℕ)) (oldest : ℕ) (checkpoint : List ℕ) → new.id ≡ old.id
-      → (honest (disk_of new) → honest (disk_of old)) → tells (these ++ those) checkpoint → Held tells honest seen may_leave old these those
-      → ((from : Origin) (head : Head) (kept rest : List (List ℕ)) → Holds seen may_leave old.log from head kept rest
-      → Holds seen may_leave new.log from (next_head old.log oldest checkpoint) (kept ++ rest) [])
-      → Held tells honest seen may_leave new (these ++ those) []
-  held_next old new these those oldest checkpoint same back told held run did =
+  pub held_next : (old new : StoredState D) (these : List (List ℕ)) (oldest : ℕ) (checkpoint : List ℕ) → new.id ≡ old.id
+      → (honest (disk_of new) → honest (disk_of old)) → tells these checkpoint → Held tells honest seen may_leave old these
+      → ((from : Origin) (head : Head) (kept : List (List ℕ)) → Holds seen may_leave old.log from head kept
+      → Holds seen may_leave new.log from (next_head old.log oldest checkpoint) kept)
+      → Held tells honest seen may_leave new these
+  held_next old new these oldest checkpoint same back told held run did =
       let h = held (back did) in
       let next = next_head old.log oldest checkpoint in
-      let now = run h.from h.head h.kept those h.holds in
+      let now = run h.from h.head h.kept h.holds in
       record {
         from = h.from;
         head = next;
-        kept = h.kept ++ those;
-        covers = covers_next tells h.from h.head next these h.kept those checkpoint (next_place old these those h) refl told h.covers;
+        kept = h.kept;
+        covers = covers_next tells h.from h.head next these h.kept checkpoint (next_place old these h) refl told h.covers;
         holds = now;
-        id = sym (its_id new.log h.from next (h.kept ++ those) [] now) ∙ h.id ∙ sym same;
+        id = sym (its_id new.log h.from next h.kept now) ∙ h.id ∙ sym same;
       }
 
   -- the first file is removed, or isn't
-  pub held_fewer : (old new : StoredState D) (these those : List (List ℕ)) (done : Bool) → new.id ≡ old.id → (honest (disk_of new) → honest (disk_of old))
-      → Held tells honest seen may_leave old these those
-      → ((from : Origin) (head : Head) (kept rest : List (List ℕ)) → Holds seen may_leave old.log from head kept rest
-      → IsTrue done → HasRetired seen may_leave new.log from head kept rest)
+  pub held_fewer : (old new : StoredState D) (these : List (List ℕ)) (done : Bool) → new.id ≡ old.id → (honest (disk_of new) → honest (disk_of old))
+      → Held tells honest seen may_leave old these
+      → ((from : Origin) (head : Head) (kept : List (List ℕ)) → Holds seen may_leave old.log from head kept
+      → IsTrue done → HasRetired seen may_leave new.log from head kept)
       → (IsFalse done → new.log ≡ old.log)
-      → Held tells honest seen may_leave new these those
-  held_fewer old new these those true same back held run stays did =
+      → Held tells honest seen may_leave new these
+  held_fewer old new these true same back held run stays did =
       let h = held (back did) in
-      let r = run h.from h.head h.kept those h.holds refl in
+      let r = run h.from h.head h.kept h.holds refl in
       record {
         from = r.to;
         head = h.head;
         kept = r.kept;
         covers = covers_fewer tells h.from r.to h.head these h.kept r.kept r.fewer h.covers;
         holds = r.holds;
-        id = sym (its_id new.log r.to h.head r.kept those r.holds) ∙ its_id old.log h.from h.head h.kept those h.holds ∙ h.id ∙ sym same;
+        id = sym (its_id new.log r.to h.head r.kept r.holds) ∙ its_id old.log h.from h.head h.kept h.holds ∙ h.id ∙ sym same;
       }
-  held_fewer old new these those false same back held run stays did =
+  held_fewer old new these false same back held run stays did =
       let h = held (back did) in
       let is = stays refl in
       record {
@@ -157,58 +156,55 @@ module _ {D : Type 0} (tells : List (List ℕ) → List ℕ → Type 0) (honest 
         head = h.head;
         kept = h.kept;
         covers = h.covers;
-        holds = subst (λ log. Holds seen may_leave log h.from h.head h.kept those) (sym is) h.holds;
+        holds = subst (λ log. Holds seen may_leave log h.from h.head h.kept) (sym is) h.holds;
         id = ap (λ (log : LogState D). log.id) is ∙ h.id ∙ sym same;
       }
 
   -- ---- and a crash leaves
 
-  pub leaves_more : (old new : StoredState D) (these those : List (List ℕ)) → new.id ≡ old.id → (honest (disk_of new) → honest (disk_of old))
-      → Held tells honest seen may_leave old these those
-      → ((from : Origin) (head : Head) (kept rest : List (List ℕ)) → Holds seen may_leave old.log from head kept rest
-      → LeavesOnly moment left_since (disk_of old) (disk_of new) (IsEither old.log.id from head kept (kept ++ rest)))
-      → LeavesOne tells honest moment left_since old new (these ∷ (these ++ those) ∷ [])
-  leaves_more old new these those same back held run = record {
+  pub leaves_more : (old new : StoredState D) (these batch : List (List ℕ)) → new.id ≡ old.id → (honest (disk_of new) → honest (disk_of old))
+      → Held tells honest seen may_leave old these
+      → ((from : Origin) (head : Head) (kept : List (List ℕ)) → Holds seen may_leave old.log from head kept
+      → LeavesOnly moment left_since (disk_of old) (disk_of new) (IsEither old.log.id from head kept (kept ++ batch)))
+      → LeavesOne tells honest moment left_since old new (these ∷ (these ++ batch) ∷ [])
+  leaves_more old new these batch same back held run = record {
     id = same;
     back = back;
     leaves = λ did.
         let h = held (back did) in
-        let left = these ∷ (these ++ those) ∷ [] in
-        let more = covers_more tells h.from h.head these h.kept those (first_within old these those h) h.covers in
-        weaker moment left_since (disk_of old) (disk_of new) (IsEither old.log.id h.from h.head h.kept (h.kept ++ those)) (KeepsOne tells old.id left)
+        let left = these ∷ (these ++ batch) ∷ [] in
+        let more = covers_more tells h.from h.head these h.kept batch (first_within old these h) h.covers in
+        weaker moment left_since (disk_of old) (disk_of new) (IsEither old.log.id h.from h.head h.kept (h.kept ++ batch)) (KeepsOne tells old.id left)
         (λ c is. ⊎_elim (λ log. one_left tells old.id old.log.id c h.from h.head these h.kept left h.id (inl refl) h.covers log)
-        (λ log. one_left tells old.id old.log.id c h.from h.head (these ++ those) (h.kept ++ those) left h.id (inr (inl refl)) more log) is)
-        (run h.from h.head h.kept those h.holds);
+        (λ log. one_left tells old.id old.log.id c h.from h.head (these ++ batch) (h.kept ++ batch) left h.id (inr (inl refl)) more log) is)
+        (run h.from h.head h.kept h.holds);
   }
 
-  pub leaves_next : (old new : StoredState D) (these those : List (List ℕ)) (oldest : ℕ) (checkpoint : List ℕ) → new.id ≡ old.id
-      → (honest (disk_of new) → honest (disk_of old)) → tells (these ++ those) checkpoint → Held tells honest seen may_leave old these those
-      → ((from : Origin) (head : Head) (kept rest : List (List ℕ)) → Holds seen may_leave old.log from head kept rest
-      → LeavesOnly moment left_since (disk_of old) (disk_of new) (IsEitherOrNext old.log.id from head (next_head old.log oldest checkpoint) kept (kept ++ rest)))
-      → LeavesOne tells honest moment left_since old new (these ∷ (these ++ those) ∷ [])
-  leaves_next old new these those oldest checkpoint same back told held run = record {
+  pub leaves_next : (old new : StoredState D) (these : List (List ℕ)) (oldest : ℕ) (checkpoint : List ℕ) → new.id ≡ old.id
+      → (honest (disk_of new) → honest (disk_of old)) → tells these checkpoint → Held tells honest seen may_leave old these
+      → ((from : Origin) (head : Head) (kept : List (List ℕ)) → Holds seen may_leave old.log from head kept
+      → LeavesOnly moment left_since (disk_of old) (disk_of new) (IsThisOrNext old.log.id from head (next_head old.log oldest checkpoint) kept))
+      → LeavesOne tells honest moment left_since old new (these ∷ [])
+  leaves_next old new these oldest checkpoint same back told held run = record {
     id = same;
     back = back;
     leaves = λ did.
         let h = held (back did) in
-        let left = these ∷ (these ++ those) ∷ [] in
+        let left = these ∷ [] in
         let next = next_head old.log oldest checkpoint in
-        let more = covers_more tells h.from h.head these h.kept those (first_within old these those h) h.covers in
-        let begun = covers_next tells h.from h.head next these h.kept those checkpoint (next_place old these those h) refl told h.covers in
-        weaker moment left_since (disk_of old) (disk_of new) (IsEitherOrNext old.log.id h.from h.head next h.kept (h.kept ++ those)) (KeepsOne tells old.id left)
-        (λ c is. ⊎_elim
-        (λ either. ⊎_elim (λ log. one_left tells old.id old.log.id c h.from h.head these h.kept left h.id (inl refl) h.covers log)
-        (λ log. one_left tells old.id old.log.id c h.from h.head (these ++ those) (h.kept ++ those) left h.id (inr (inl refl)) more log) either)
-        (λ log. one_left tells old.id old.log.id c h.from next (these ++ those) (h.kept ++ those) left h.id (inr (inl refl)) begun log) is)
-        (run h.from h.head h.kept those h.holds);
+        let begun = covers_next tells h.from h.head next these h.kept checkpoint (next_place old these h) refl told h.covers in
+        weaker moment left_since (disk_of old) (disk_of new) (IsThisOrNext old.log.id h.from h.head next h.kept) (KeepsOne tells old.id left)
+        (λ c is. ⊎_elim (λ log. one_left tells old.id old.log.id c h.from h.head these h.kept left h.id (inl refl) h.covers log)
+        (λ log. one_left tells old.id old.log.id c h.from next these h.kept left h.id (inl refl) begun log) is)
+        (run h.from h.head h.kept h.holds);
   }
 
-  pub leaves_fewer : (old new : StoredState D) (these those : List (List ℕ)) → new.id ≡ old.id → (honest (disk_of new) → honest (disk_of old))
-      → Held tells honest seen may_leave old these those
-      → ((from : Origin) (head : Head) (kept rest : List (List ℕ)) → Holds seen may_leave old.log from head kept rest
+  pub leaves_fewer : (old new : StoredState D) (these : List (List ℕ)) → new.id ≡ old.id → (honest (disk_of new) → honest (disk_of old))
+      → Held tells honest seen may_leave old these
+      → ((from : Origin) (head : Head) (kept : List (List ℕ)) → Holds seen may_leave old.log from head kept
       → LeavesOnly moment left_since (disk_of old) (disk_of new) (IsLogOrFewer old.log.id from head kept))
       → LeavesOne tells honest moment left_since old new (these ∷ [])
-  leaves_fewer old new these those same back held run = record {
+  leaves_fewer old new these same back held run = record {
     id = same;
     back = back;
     leaves = λ did.
@@ -218,5 +214,5 @@ module _ {D : Type 0} (tells : List (List ℕ) → List ℕ → Type 0) (honest 
         (λ c is. ⊎_elim (λ log. one_left tells old.id old.log.id c h.from h.head these h.kept left h.id (inl refl) h.covers log)
         (λ s. one_left tells old.id old.log.id c s.to h.head these s.kept left h.id (inl refl)
         (covers_fewer tells h.from s.to h.head these h.kept s.kept s.fewer h.covers) s.log) is)
-        (run h.from h.head h.kept those h.holds);
+        (run h.from h.head h.kept h.holds);
   }

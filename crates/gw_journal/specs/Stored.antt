@@ -28,20 +28,20 @@ pub record StoredState (D : Type 0) : Type 0 where
 abbrev pub disk_of : {D : Type 0} → StoredState D → D
 disk_of s = s.log.segment.disk
 
--- these are all its records since it was created, whatever crash comes, and those are pending
+-- these are all its records since it was created, whatever crash comes
 pub record IsHeld {D : Type 0} (tells : List (List ℕ) → List ℕ → Type 0) (seen : D → Files) (may_leave : D → Files → Type 0) (s : StoredState D)
-    (these those : List (List ℕ)) : Type 0 where
+    (these : List (List ℕ)) : Type 0 where
   pub from : Origin
   pub head : Head
   pub kept : List (List ℕ)
   pub covers : Covers tells from head these kept
-  pub holds : Holds seen may_leave s.log from head kept those
+  pub holds : Holds seen may_leave s.log from head kept
   pub id : s.log.id ≡ s.id
 
--- what the disk answered holds, so the log has these, and those pending
+-- what the disk answered holds, so the log has these
 abbrev pub Held : {D : Type 0} → (List (List ℕ) → List ℕ → Type 0) → (D → Type 0) → (D → Files) → (D → Files → Type 0)
-    → StoredState D → List (List ℕ) → List (List ℕ) → Type 0
-Held tells honest seen may_leave s these those = honest (disk_of s) → IsHeld tells seen may_leave s these those
+    → StoredState D → List (List ℕ) → Type 0
+Held tells honest seen may_leave s these = honest (disk_of s) → IsHeld tells seen may_leave s these
 
 -- the files are a log of this number with one of these lists of records
 pub record KeepsOne (tells : List (List ℕ) → List ℕ → Type 0) (id : ℕ) (left : List (List (List ℕ))) (files : Files) : Type 0 where

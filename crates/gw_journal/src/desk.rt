@@ -145,11 +145,11 @@ fn stored<J: Naming>(ticket: &Ticket<J>, front: &Front<J>, synced: u64) -> Optio
 }
 
 impl<J: Naming, S: Storage + Drop> Desk<J, S> {
-    /// The journal over a storage that has this many records, and none pending.
+    /// The journal over a storage that has this many records.
     #[tactic(auto, using(crate::proofs::Logging::true_opened))]
     pub fn open(alloc: Global, opened: Opened, storage: S, count: u64) -> Desk<J, S>
         requires book { opened.seen.book ≡ J.book }
-        requires stands { S.stands storage J.before [] }
+        requires stands { S.stands storage J.before }
         requires count { count ≡ length J.before }
         ensures history { result.history ≡ [] }
         ensures full { (result.fault ≡ Some JournalFault.Full) ↔ 2 ^ 62 < count }
@@ -237,7 +237,8 @@ impl<J: Naming, S: Storage + Drop> Desk<J, S> {
         })
     }
 
-    /// The storage, with what it wasn't given yet. None: another thread has it, or all that was put counts, or there was a fault.
+    /// The storage, with what it wasn't given yet. None: another thread has it, or it has all that was put, or there was a fault.
+    #[tactic(auto, using(crate::proofs::Logging::job_taken))]
     pub fn take(&mut self, alloc: Global) -> Option<Job<J, S>>
         ensures same { self.new.history ≡ self.old.history }
         ensures seen { IfSome result (λ job. job.history ≡ self.old.history) }
@@ -245,7 +246,7 @@ impl<J: Naming, S: Storage + Drop> Desk<J, S> {
         ensures none { IsNone result ↔ IsIdle self.old }
         ensures fault { self.new.fault ≡ self.old.fault }
     {
-        if self.fault.is_some() || self.batch.is_empty() && self.given == self.settled {
+        if self.fault.is_some() || self.batch.is_empty() {
             return None;
         }
         let storage = self.storage.take()?;
@@ -255,7 +256,6 @@ impl<J: Naming, S: Storage + Drop> Desk<J, S> {
             storage,
             batch: replace(&mut self.batch, Vec::new(alloc)),
             given,
-            settled: self.settled,
             front: self.history.front().again(),
             oldest: 0,
             checkpoint: None,
@@ -269,7 +269,6 @@ impl<J: Naming, S: Storage + Drop> Desk<J, S> {
     {
         self.fault.is_none()
             && done.given == self.given
-            && done.settled >= self.settled
             && done.front.begins(self.history.front())
     }
 
@@ -278,8 +277,8 @@ impl<J: Naming, S: Storage + Drop> Desk<J, S> {
         ensures later { IsPrefix self.old.history self.new.history }
         ensures back { IsNone self.new.fault → self.new ≡ record self.old {
           storage = Some done.storage;
-          settled = done.settled;
-          history = self.old.history ++ Synced done.settled ∷ [];
+          settled = done.given;
+          history = self.old.history ++ Synced done.given ∷ [];
         } }
         ensures faulty { IsSome self.old.fault → self.new.fault ≡ self.old.fault }
         ensures disk { self.new.fault ≡ Some JournalFault.Disk →
@@ -293,15 +292,15 @@ impl<J: Naming, S: Storage + Drop> Desk<J, S> {
         }
         let Done {
             storage,
-            settled,
+            given,
             ..
         } = done;
-        if !self.history.add(&Syncing { count: settled }) {
+        if !self.history.add(&Syncing { count: given }) {
             self.fault = Some(JournalFault::Full);
             return;
         }
         self.storage = Some(storage);
-        self.settled = settled;
+        self.settled = given;
     }
 
     /// The storage didn't come back: this is why. Only the first fault is kept.

@@ -11,10 +11,10 @@ ghost use Rattle.gw_log.specs.Disk.{Files};
 use crate::summary::Summary;
 use gw_log::Disk;
 
-/// Where nothing is asked of a log, whatever crash comes, the files that it leaves are the log with just the records that count, if the disk did what its calls answered.
+/// Where nothing is asked of a log, whatever crash comes, the files that it leaves are the log with just its records, if the disk did what its calls answered.
 pub fn what_counts_is_left<K: Summary, D: Disk>()
-    ensures { (s : StoredState D) (these those : List (List ℕ)) (c : Files) →
-        D.honest (disk_of s) → Held K.tells D.honest D.seen D.may_leave s these those →
+    ensures { (s : StoredState D) (these : List (List ℕ)) (c : Files) →
+        D.honest (disk_of s) → Held K.tells D.honest D.seen D.may_leave s these →
         D.may_leave (disk_of s) c → IsKept K.tells s.id c these }
 {}
 
@@ -49,7 +49,7 @@ pub fn a_journal_goes_on<K: Summary, D: Disk>()
         D.honest (disk_of new) →
         IsJob (Held K.tells D.honest D.seen D.may_leave) K.tells job (log_in before job.history) →
         LeavesOne K.tells D.honest D.moment D.left_since job.storage new
-        (outcomes job.next job.settled job.given (log_in before job.history).records) →
+        (outcomes job.given (log_in before job.history).records) →
         D.left_since (disk_of new) (D.moment (disk_of job.storage)) c → HasMore K.tells job.storage.id before c }
 {}
 

@@ -95,7 +95,7 @@ impl<K: Summary, D: Disk> Stored<K, D> {
         // After a restart, what is read is what is on the disk.
         requires durable { Only (D.seen disk) (D.may_leave disk) }
         requires told { K.tells [] checkpoint.now }
-        ensures ok { IfOk result (λ s. Held K.tells D.honest D.seen D.may_leave s [] []) }
+        ensures ok { IfOk result (λ s. Held K.tells D.honest D.seen D.may_leave s []) }
         ensures id { IfOk result (λ s. s.id ≡ id) }
         ensures back { IfOk result (λ s. D.honest (disk_of s) → D.honest disk) }
     {
@@ -117,7 +117,7 @@ impl<K: Summary, D: Disk> Stored<K, D> {
         requires { Only (D.seen disk) (D.may_leave disk) }
         // All records of the log that the folder is stand in it, and what it returns tells of them all.
         ensures ok { IfOk result (λ r. (all : List (List ℕ)) → IsKept K.tells id (D.seen disk) all →
-            Held K.tells D.honest D.seen D.may_leave r.0 all []) }
+            Held K.tells D.honest D.seen D.may_leave r.0 all) }
         ensures last { IfOk result (λ r. D.honest (disk_of r.0) →
             TellsLast K.tells id (D.seen disk) r.1) }
         ensures id { IfOk result (λ r. r.0.id ≡ id) }
@@ -176,11 +176,6 @@ impl<K: Summary, D: Disk> Storage for Stored<K, D> {
         Ok(())
     }
 
-    fn settle(&mut self) -> Result<(), JournalFault> {
-        self.log.settle()?;
-        Ok(())
-    }
-
     fn begin_next(&mut self, oldest: u64, checkpoint: &[u8]) -> Result<(), JournalFault> {
         self.log.begin_next(oldest, checkpoint)?;
         Ok(())
@@ -196,7 +191,7 @@ impl<K: Summary, D: Disk> Storage for Stored<K, D> {
     }
 
     fn tail(&self) -> (u64, usize) {
-        (self.log.number(), self.log.settled())
+        (self.log.number(), self.log.size())
     }
 
     ghost at_rest = { one_at_rest K.tells D.honest D.seen D.may_leave D.moment D.left_since D.only_now };

@@ -132,12 +132,12 @@ fn note_margin<J: Naming>(last: &mut Option<Ticket<J>>, ticket: &Ticket<J>, even
 }
 
 impl<J: Naming, S: Storage + Drop, R: Rules> Ledger<J, S, R> {
-    /// The ledger of a log that has these records, and none pending. Where they spell events, these are lawful, and this is their state.
+    /// The ledger of a log that has these records. Where they spell events, these are lawful, and this is their state.
     ///
     /// The next file is begun where the last one has more bytes than `limit`.
     pub fn open(alloc: Global, opened: Opened, storage: S, state: State, limit: usize) -> Self
         requires book { opened.seen.book ≡ J.book }
-        requires stands { S.stands storage J.before [] }
+        requires stands { S.stands storage J.before }
         requires state { IsInState R.routes ⊤ J.before state }
         requires numbers { IfSome state.last (λ n. n < state.margin) }
         requires tells { (records : List (List ℕ)) (bytes : List ℕ) → Tells records bytes → S.tells records bytes }
@@ -169,7 +169,7 @@ impl<J: Naming, S: Storage + Drop, R: Rules> Ledger<J, S, R> {
     pub fn begin(alloc: Global, opened: Opened, storage: S, limit: usize) -> Self
         requires book { opened.seen.book ≡ J.book }
         requires before { J.before ≡ [] }
-        requires stands { S.stands storage J.before [] }
+        requires stands { S.stands storage J.before }
         requires tells { (records : List (List ℕ)) (bytes : List ℕ) → Tells records bytes → S.tells records bytes }
         ensures history { result.desk.history ≡ [] }
         ensures state { result.state ≡ spec.nothing }

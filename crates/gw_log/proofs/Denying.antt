@@ -1,28 +1,24 @@
 -- A folder that is reported damaged is no log.
-use Rattle.std.proofs.Common.{◌≡◌, inl, inr, ℕ, ◌+◌, ◌-◌, ◌<◌, ◌≤◌, List, ◌∷◌, ◌++◌, length, drop, refl, sym, ◌∙◌, ap, subst, arith, append_assoc, Result, Ok, Err, IsErr, IsErrAnd, IsErrOf}
+use Rattle.std.proofs.Common.{◌≡◌, inl, inr, ℕ, ◌+◌, ◌-◌, ◌<◌, ◌≤◌, List, ◌∷◌, length, drop, refl, sym, ◌∙◌, ap, subst, arith, Result, Ok, Err, IsErr, IsErrAnd, IsErrOf}
 use Rattle.std.proofs.lemmas.Bool.{cases_eq}
 use Rattle.gw_log.specs.Disk.{Files, AreEnds}
-use Rattle.gw_log.specs.File.{body, blocks, Has, HasNoRecord, HasRecordAt, IsDamagedAt}
+use Rattle.gw_log.specs.File.{Has, HasNoRecord, HasRecordAt, IsDamagedAt}
 use Rattle.gw_log.specs.Chain.{Head, spelled, IsWide, ended, AreBefore, none, more, Origin, IsLog, IsNoLog, HasHead}
 use Rattle.gw_log.specs.Opening.{BeginsAs, IsSealed}
 use Rattle.gw_log.specs.Opening.{IsOnlyOf}
 use Rattle.gw_log.specs.own.Opens.{HasNoHead, IsHeadedBy, IsNoLogOf, IsNoLogUpTo}
 use Rattle.gw_log.specs.own.Steps.{UpTo}
-use Rattle.gw_log.proofs.Ways.{first_same, not_both}
+use Rattle.gw_log.proofs.Ways.{first_there, first_is, not_both}
 use Rattle.gw_log.proofs.Placing.{same_numbers, first_of, next_of, has_ended}
 use Rattle.gw_log.proofs.Founding.{last_within, top_near, least_is, last_open}
 
-head_whole : (h : Head) (records : List (List ℕ)) (file : List ℕ) (has : Has (spelled h ∷ records) file) → file ≡ 1 ∷ body (spelled h) ++ (blocks records ++ has.end)
-head_whole h records file has = has.whole ∙ ap (λ (l : List ℕ). 1 ∷ l) (append_assoc (body (spelled h)) (blocks records) has.end)
-
 -- the record at a file's front is its head
 same_first : (id n b : ℕ) (bytes file : List ℕ) (h : HasHead id n b file) → HasRecordAt 0 bytes file → bytes ≡ spelled h.head
-same_first id n b bytes file h here =
-    (first_same bytes (spelled h.head) (drop (0 + length (1 ∷ body bytes)) file) (blocks h.records ++ h.has.end) here.short h.has.short.0
-    (sym here.whole ∙ head_whole h.head h.records file h.has)).0
+same_first id n b bytes file h here = first_is bytes (spelled h.head) h.records file here h.has
 
 pub no_record_there : (id n : ℕ) (file : List ℕ) → HasNoRecord (drop 0 file) → HasNoHead id n file
-no_record_there id n file bare b h = bare (spelled h.head) (blocks h.records ++ h.has.end) h.has.short.0 (head_whole h.head h.records file h.has)
+no_record_there id n file bare b h =
+    let it = first_there (spelled h.head) h.records file h.has in bare it.gate (spelled h.head) it.more it.short it.whole
 
 pub no_head_there : (id n : ℕ) (read bytes file : List ℕ) → HasRecordAt 0 bytes file → read ≡ bytes → length read < 40 → HasNoHead id n file
 no_head_there id n read bytes file here is short b h = omega (arith, short, ap length is, ap length (same_first id n b bytes file h here))
@@ -117,8 +113,8 @@ module _ (id : ℕ) (files : Files) (from : Origin) (head : Head) (records : Lis
         at_last at (top - 1) (omega (arith, differs, (last_within id files from head records log first top ends).1, top_near id files from head records log first top ends)) damage
   ]
 
-  pub last_is_open : (rows : List (List ℕ)) (end : ℕ) → head.number ≡ top → UpTo (files top) end rows → IsSealed rows → ⊥
-  last_is_open rows end is up sealed =
+  pub last_is_open : (rows : List (List ℕ)) (end reach size : ℕ) → head.number ≡ top → UpTo (files top) end reach size rows → IsSealed rows → ⊥
+  last_is_open rows end reach size is up sealed =
       last_open head log.these rows (files head.number) log.last (subst (λ k. Has rows (files k)) (sym is) up.has) sealed
 
 -- ---- what was read before a step, of what is there after it

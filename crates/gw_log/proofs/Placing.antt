@@ -7,8 +7,8 @@ use Rattle.gw_log.specs.Disk.{Files, AreEnds}
 use Rattle.gw_log.specs.File.{Has}
 use Rattle.gw_log.specs.State.{Stands}
 use Rattle.gw_log.specs.Chain.{Head, spelled, IsWide, IsEnded, ended, AreBefore, none, more, Origin, IsLast, IsLog, LogState, Holds, HasHead, first_head, beginning}
-use Rattle.gw_log.proofs.Crash.{has_shut}
-use Rattle.gw_log.proofs.Ways.{fronts, one_way}
+use Rattle.gw_log.proofs.Batches.{has_lone}
+use Rattle.gw_log.proofs.Ways.{fronts, one_way, first_there}
 
 -- ---- a file has one head
 
@@ -74,7 +74,7 @@ one_headed id other n m b c file these those =
 -- ---- each in its place
 
 pub has_ended : (h : Head) (records : List (List ℕ)) (file : List ℕ) → IsEnded h records file → Has (ended h records) file
-has_ended h records file is = has_shut (ended h records) 0 [] file (omega arith) is.short is.whole
+has_ended h records file is = has_lone (ended h records) 0 file is.short is.whole
 
 first_place : (id : ℕ) (files : Files) (last : Head) (these : List (List ℕ)) (n f b : ℕ) (records : List (List ℕ)) → IsLast last these (files last.number)
     → AreBefore id files last n f b records → HasHead id n b (files n)
@@ -115,7 +115,7 @@ next_of id files from head records is = next_place id files head is.these from.n
 
 -- a file with a head has a byte
 not_none : (id n b : ℕ) (file : List ℕ) → HasHead id n b file → file ≡ [] → ⊥
-not_none id n b file head is = omega (arith, ap length (sym is ∙ head.has.whole))
+not_none id n b file head is = omega (arith, ap length (sym is ∙ (first_there (spelled head.head) head.records file head.has).whole))
 
 -- each file from the first to the last has a byte
 pub some_there : (id : ℕ) (files : Files) (from : Origin) (head : Head) (records : List (List ℕ)) (is : IsLog id files from head records) (n : ℕ) → from.number ≤ n → n ≤ head.number
@@ -151,9 +151,9 @@ pub none_within : (first last : ℕ) (files : Files) → last < first → AreEnd
 none_within first last files lt are n = listless (files n) (λ some. let ends = are.within n some in omega (arith, ends.0, ends.1, lt))
 
 pub created : {D : Type 0} (seen : D → Files) (may_leave : D → Files → Type 0) (t : LogState D) (base : Files) (id : ℕ) (checkpoint : List ℕ) (batch : List (List ℕ))
-    → batch ≡ spelled (first_head id checkpoint) ∷ [] → IsWide (first_head id checkpoint) → Stands seen may_leave t.segment batch [] → t.segment.number ≡ 1
+    → batch ≡ spelled (first_head id checkpoint) ∷ [] → IsWide (first_head id checkpoint) → Stands seen may_leave t.segment batch → t.segment.number ≡ 1
     → ((m : ℕ) → base m ≡ []) → ((m : ℕ) → m ≢ 1 → seen t.segment.disk m ≡ base m) → t.id ≡ id → t.first ≡ 0 → t.count ≡ 0 → t.oldest ≡ 1 → t.least ≡ 1
-    → Holds seen may_leave t beginning (first_head id checkpoint) [] []
+    → Holds seen may_leave t beginning (first_head id checkpoint) []
 created seen may_leave t base id checkpoint batch is wide stands number nothing same id_is first count oldest least = record {
   front = [];
   these = [];
@@ -161,8 +161,7 @@ created seen may_leave t base id checkpoint batch is wide stands number nothing 
       (none 1 0 0 (record { its_id = refl; its_number = refl; its_first = refl; its_before = refl }));
   wide = wide;
   some = tt;
-  fresh = tt;
-  stands = subst (λ l. Stands seen may_leave t.segment l []) is stands;
+  stands = subst (Stands seen may_leave t.segment) is stands;
   number = sym number;
   all = refl;
   there = omega arith;

@@ -1,11 +1,11 @@
 -- The first file of a log is removed.
-use Rattle.std.proofs.Common.{◌≡◌, ◌≢◌, inl, inr, ℕ, ◌+◌, ◌<◌, ◌≤◌, List, [], ◌∷◌, ◌++◌, length, drop, refl, sym, ◌∙◌, ap, subst, arith, append_assoc}
+use Rattle.std.proofs.Common.{◌≡◌, ◌≢◌, inl, inr, ℕ, ◌+◌, ◌<◌, ◌≤◌, List, [], ◌∷◌, ◌++◌, length, refl, sym, ◌∙◌, ap, subst, arith, append_assoc}
 use Rattle.std.proofs.lemmas.Bool.{cases_eq}
 use Rattle.gw_log.specs.Disk.{Files, Changes, IsGone}
 use Rattle.gw_log.specs.File.{Has}
-use Rattle.gw_log.specs.State.{at_rest, Stands}
+use Rattle.gw_log.specs.State.{Stands}
 use Rattle.gw_log.specs.Chain.{Head, spelled, IsEnded, AreBefore, none, more, IsUnborn, Origin, IsLast, LogState, Holds, IsFewer, HasRetired, IsLogOrFewer}
-use Rattle.gw_log.proofs.Crash.{has_shut}
+use Rattle.gw_log.proofs.Sound.{has_stands}
 use Rattle.gw_log.proofs.Logs.{before_le, no_file, log_as_is}
 
 -- what is left of the files before the last
@@ -30,8 +30,8 @@ before_from id files c last n f b _ same (more _ _ _ h these those fol is rest) 
     (subst (λ (l : List ℕ). AreBefore id c last (n + 1) (f + length these) (length l) those) here
     (before_from id files c last (n + 1) (f + length these) (length (files n)) those (λ m le lt. same m (omega (arith, le)) lt) rest))
 
-module _ {D : Type 0} (seen : D → Files) (may_leave : D → Files → Type 0) (s : LogState D) (from : Origin) (head : Head) (records pending : List (List ℕ))
-    (h : Holds seen may_leave s from head records pending) (is_least : s.least < s.segment.number) (is_old : s.least < s.oldest) where
+module _ {D : Type 0} (seen : D → Files) (may_leave : D → Files → Type 0) (s : LogState D) (from : Origin) (head : Head) (records : List (List ℕ))
+    (h : Holds seen may_leave s from head records) (is_least : s.least < s.segment.number) (is_old : s.least < s.oldest) where
   abbrev files : Files
   files = seen s.segment.disk
 
@@ -59,7 +59,7 @@ module _ {D : Type 0} (seen : D → Files) (may_leave : D → Files → Type 0) 
   there = omega (arith, is_old, h.least, h.oldest)
 
   has_mine : (file : List ℕ) → file ≡ files s.segment.number → Has mine file
-  has_mine file is = has_shut mine 0 (drop 1 (at_rest pending)) file (omega arith) h.stands.staged.short (is ∙ h.stands.staged.file)
+  has_mine file is = has_stands seen may_leave s.segment mine h.stands file is
 
   -- what is there where the first file may be gone
   pub shortened : (c : Files) → Changes s.least (IsGone (files s.least)) files c → IsLogOrFewer s.id from head records c
@@ -90,7 +90,7 @@ module _ {D : Type 0} (seen : D → Files) (may_leave : D → Files → Type 0) 
             | inl is ↦ ap (λ (k : ℕ). c k) (is ∙ sym at) ∙ kept ∙ ap (λ (k : ℕ). files k) (at ∙ sym is)
             | inr differs ↦ others m differs
           ] in
-          inl (log_as_is seen may_leave s from head records pending h c all)
+          inl (log_as_is seen may_leave s from head records h c all)
       by (inr gone) = inr (record {
         to = to;
         kept = rest.kept ++ h.these;
@@ -113,9 +113,9 @@ module _ {D : Type 0} (seen : D → Files) (may_leave : D → Files → Type 0) 
       })
 
   -- and then the log holds the others
-  pub retired : (t : LogState D) → Stands seen may_leave t.segment mine pending → t.segment.number ≡ s.segment.number
+  pub retired : (t : LogState D) → Stands seen may_leave t.segment mine → t.segment.number ≡ s.segment.number
       → Changes s.least (λ file. file ≡ []) files (seen t.segment.disk) → t.id ≡ s.id → t.first ≡ s.first → t.count ≡ s.count → t.oldest ≡ s.oldest
-      → t.least ≡ s.least + 1 → HasRetired seen may_leave t from head records pending
+      → t.least ≡ s.least + 1 → HasRetired seen may_leave t from head records
   retired t stands number changes id first count oldest least =
       let c = seen t.segment.disk in
       let others : (m : ℕ) → m ≢ from.number → c m ≡ files m = λ m differs. changes.others m (λ is. differs (is ∙ sym h.least)) in
@@ -131,7 +131,6 @@ module _ {D : Type 0} (seen : D → Files) (may_leave : D → Files → Type 0) 
               (λ m le lt. others m (λ is. omega (arith, is, le))) rest.rest);
           wide = h.wide;
           some = h.some;
-          fresh = h.fresh;
           stands = stands;
           number = h.number ∙ sym number;
           all = refl;

@@ -106,23 +106,22 @@ pub record LogState (D : Type 0) : Type 0 where
   pub oldest : ℕ
   pub least : ℕ
 
--- The log has this head of its last file and these records, on the disk whatever crash comes, and these pending
+-- The log has this head of its last file and these records, on the disk whatever crash comes
 pub record Holds {D : Type 0} (seen : D → Files) (may_leave : D → Files → Type 0) (s : LogState D) (from : Origin) (head : Head)
-    (records pending : List (List ℕ)) : Type 0 where
+    (records : List (List ℕ)) : Type 0 where
   pub front : List (List ℕ)
   pub these : List (List ℕ)
   pub ended : AreBefore s.id (seen s.segment.disk) head from.number from.first from.before front
   pub wide : IsWide head
   pub some : AreSome these
-  pub fresh : AreSome pending
-  pub stands : Stands seen may_leave s.segment (spelled head ∷ these) pending
+  pub stands : Stands seen may_leave s.segment (spelled head ∷ these)
   pub number : head.number ≡ s.segment.number
   pub all : records ≡ front ++ these
   pub there : from.number ≤ head.oldest
   pub none_below : (number : ℕ) → number < from.number → seen s.segment.disk number ≡ []
   pub none_above : (number : ℕ) → head.number < number → seen s.segment.disk number ≡ []
   pub first : head.first ≡ s.first
-  pub count : s.count ≡ length these + length pending
+  pub count : s.count ≡ length these
   pub oldest : head.oldest ≡ s.oldest
   pub least : from.number ≡ s.least
 
@@ -130,14 +129,14 @@ pub record Holds {D : Type 0} (seen : D → Files) (may_leave : D → Files → 
 abbrev pub IsEither : ℕ → Origin → Head → List (List ℕ) → List (List ℕ) → Files → Type 0
 IsEither id from head these those files = IsLog id files from head these ⊎ IsLog id files from head those
 
--- such a log, or one of the latter records with the next head
-abbrev pub IsEitherOrNext : ℕ → Origin → (head next : Head) → List (List ℕ) → List (List ℕ) → Files → Type 0
-IsEitherOrNext id from head next these those files = IsEither id from head these those files ⊎ IsLog id files from next those
+-- a log of these records, with this head or the next one
+abbrev pub IsThisOrNext : ℕ → Origin → (head next : Head) → List (List ℕ) → Files → Type 0
+IsThisOrNext id from head next these files = IsLog id files from head these ⊎ IsLog id files from next these
 
 -- what the folder is a log of, the log holds
 abbrev pub HoldsAll : {D : Type 0} → (D → Files) → (D → Files → Type 0) → ℕ → D → LogState D → Type 0
 HoldsAll seen may_leave id disk s =
-    (from : Origin) (head : Head) (records : List (List ℕ)) → IsLog id (seen disk) from head records → Holds seen may_leave s from head records []
+    (from : Origin) (head : Head) (records : List (List ℕ)) → IsLog id (seen disk) from head records → Holds seen may_leave s from head records
 
 -- a crash at any moment since then leaves a log of the same head and records
 abbrev pub LeavesLog : {D : Type 0} → (D → Files) → (D → ℕ) → (D → ℕ → Files → Type 0) → ℕ → D → D → Type 0
@@ -145,29 +144,30 @@ LeavesLog seen moment left_since id old new =
     (from : Origin) (head : Head) (records : List (List ℕ)) → IsLog id (seen old) from head records
     → LeavesOnly moment left_since old new (λ c. IsLog id c from head records)
 
--- at `Ok` all that was pending counts, whatever crash comes, and these are pending. The head is the same
+-- at `Ok` the log holds this batch behind the others, whatever crash comes. The head is the same
 abbrev pub Commits : {D T E : Type 0} → (D → Files) → (D → Files → Type 0) → LogState D → LogState D → List (List ℕ) → Result T E → Type 0
-Commits seen may_leave old new pending result =
-    (from : Origin) (head : Head) (these those : List (List ℕ)) → Holds seen may_leave old from head these those
-    → OnOk result (Holds seen may_leave new from head (these ++ those) pending)
+Commits seen may_leave old new batch result =
+    (from : Origin) (head : Head) (these : List (List ℕ)) → Holds seen may_leave old from head these
+    → OnOk result (Holds seen may_leave new from head (these ++ batch))
 
--- a crash at any moment since then leaves a log of what counted, or of that with all that was pending, with the same head
-abbrev pub LeavesCounted : {D : Type 0} → (D → Files) → (D → Files → Type 0) → (D → ℕ) → (D → ℕ → Files → Type 0) → LogState D → LogState D → Type 0
-LeavesCounted seen may_leave moment left_since old new =
-    (from : Origin) (head : Head) (these those : List (List ℕ)) → Holds seen may_leave old from head these those
-    → LeavesOnly moment left_since old.segment.disk new.segment.disk (IsEither old.id from head these (these ++ those))
+-- a crash at any moment since then leaves a log of what there was, or of that with the batch, with the same head
+abbrev pub LeavesCounted : {D : Type 0} → (D → Files) → (D → Files → Type 0) → (D → ℕ) → (D → ℕ → Files → Type 0) → LogState D → LogState D
+    → List (List ℕ) → Type 0
+LeavesCounted seen may_leave moment left_since old new batch =
+    (from : Origin) (head : Head) (these : List (List ℕ)) → Holds seen may_leave old from head these
+    → LeavesOnly moment left_since old.segment.disk new.segment.disk (IsEither old.id from head these (these ++ batch))
 
--- at `Ok` all that was pending counts, whatever crash comes, and the head is this one
+-- at `Ok` the log holds the same records, whatever crash comes, and the head is this one
 abbrev pub GoesOn : {D T E : Type 0} → (D → Files) → (D → Files → Type 0) → LogState D → LogState D → Head → Result T E → Type 0
 GoesOn seen may_leave old new next result =
-    (from : Origin) (head : Head) (these those : List (List ℕ)) → Holds seen may_leave old from head these those
-    → OnOk result (Holds seen may_leave new from next (these ++ those) [])
+    (from : Origin) (head : Head) (these : List (List ℕ)) → Holds seen may_leave old from head these
+    → OnOk result (Holds seen may_leave new from next these)
 
--- A crash at any moment since then leaves a log of what counted, or of that with all that was pending. The head is the same; or it is the next one, and all counts
+-- a crash at any moment since then leaves a log of the same records, with the same head or the next one
 abbrev pub LeavesGoing : {D : Type 0} → (D → Files) → (D → Files → Type 0) → (D → ℕ) → (D → ℕ → Files → Type 0) → LogState D → LogState D → Head → Type 0
 LeavesGoing seen may_leave moment left_since old new next =
-    (from : Origin) (head : Head) (these those : List (List ℕ)) → Holds seen may_leave old from head these those
-    → LeavesOnly moment left_since old.segment.disk new.segment.disk (IsEitherOrNext old.id from head next these (these ++ those))
+    (from : Origin) (head : Head) (these : List (List ℕ)) → Holds seen may_leave old from head these
+    → LeavesOnly moment left_since old.segment.disk new.segment.disk (IsThisOrNext old.id from head next these)
 
 -- the head of a log's first file, and where a log begins that is new
 abbrev pub first_head : ℕ → List ℕ → Head
@@ -176,12 +176,12 @@ first_head id checkpoint = record { number = 1; first = 0; before = 0; oldest = 
 abbrev pub beginning : Origin
 beginning = record { number = 1; first = 0; before = 0 }
 
--- The head of the file behind the last one. The last one is 38 bytes longer once it is ended: by an empty record, and a closed gate
+-- The head of the file behind the last one. The last one is 46 bytes longer once it is ended: by an empty record, and a gate of 0
 abbrev pub next_head : {D : Type 0} → LogState D → (oldest : ℕ) → List ℕ → Head
 next_head s oldest checkpoint = record {
   number = s.segment.number + 1;
   first = s.first + s.count;
-  before = s.segment.reach + 38;
+  before = s.segment.reach + 46;
   oldest = oldest;
   id = s.id;
   checkpoint = checkpoint;
@@ -219,11 +219,11 @@ pub record IsFewer (from : Origin) (records : List (List ℕ)) (to : Origin) (ke
 
 -- the log holds those that are left, each at its place
 pub record HasRetired {D : Type 0} (seen : D → Files) (may_leave : D → Files → Type 0) (s : LogState D) (from : Origin) (head : Head)
-    (records pending : List (List ℕ)) : Type 0 where
+    (records : List (List ℕ)) : Type 0 where
   pub to : Origin
   pub kept : List (List ℕ)
   pub fewer : IsFewer from records to kept
-  pub holds : Holds seen may_leave s to head kept pending
+  pub holds : Holds seen may_leave s to head kept
 
 -- a log of those that are left, with the same head
 pub record IsShortened (id : ℕ) (from : Origin) (head : Head) (records : List (List ℕ)) (files : Files) : Type 0 where
@@ -236,14 +236,14 @@ pub record IsShortened (id : ℕ) (from : Origin) (head : Head) (records : List 
 abbrev pub IsLogOrFewer : ℕ → Origin → Head → List (List ℕ) → Files → Type 0
 IsLogOrFewer id from head records files = IsLog id files from head records ⊎ IsShortened id from head records files
 
--- where the answer is true, the records of the first file are gone, and the others are held, with those that are pending
+-- where the answer is true, the records of the first file are gone, and the others are held
 abbrev pub Retires : {D E : Type 0} → (D → Files) → (D → Files → Type 0) → LogState D → LogState D → Result Bool E → Type 0
 Retires seen may_leave old new result =
-    (from : Origin) (head : Head) (these those : List (List ℕ)) → Holds seen may_leave old from head these those
-    → IfOk result (λ done. IsTrue done → HasRetired seen may_leave new from head these those)
+    (from : Origin) (head : Head) (these : List (List ℕ)) → Holds seen may_leave old from head these
+    → IfOk result (λ done. IsTrue done → HasRetired seen may_leave new from head these)
 
 -- a crash at any moment since then leaves the log as it was, or without the records of the first file
 abbrev pub LeavesFewer : {D : Type 0} → (D → Files) → (D → Files → Type 0) → (D → ℕ) → (D → ℕ → Files → Type 0) → LogState D → LogState D → Type 0
 LeavesFewer seen may_leave moment left_since old new =
-    (from : Origin) (head : Head) (these those : List (List ℕ)) → Holds seen may_leave old from head these those
+    (from : Origin) (head : Head) (these : List (List ℕ)) → Holds seen may_leave old from head these
     → LeavesOnly moment left_since old.segment.disk new.segment.disk (IsLogOrFewer old.id from head these)

@@ -121,7 +121,7 @@ impl<D: Disk> Log<D> {
         requires { Only (D.seen disk) (D.may_leave disk) }
         ensures ok { IfOk result (λ log.
             D.honest log.segment.disk →
-            Holds D.seen D.may_leave log beginning (first_head id checkpoint.now) [] []) }
+            Holds D.seen D.may_leave log beginning (first_head id checkpoint.now) []) }
         ensures id { IfOk result (λ log. log.id ≡ id) }
 
         // `Taken` comes only where a file has a byte, and leaves the folder as it was.
@@ -202,7 +202,7 @@ impl<D: Disk> Log<D> {
         } = found;
         let log = Log {
             alloc,
-            segment: Segment::over(alloc, disk, number, end),
+            segment: Segment::over(alloc, disk, number, end.reach),
             id,
             first: place.first,
             count: (records.len() as u64).saturating_sub(1),
@@ -212,9 +212,9 @@ impl<D: Disk> Log<D> {
         Ok((log, records))
     }
 
-    /// Puts a batch behind the others, and brings it to the disk. It counts only once the next batch was put, or the log was settled.
+    /// Puts a batch behind the others, and brings it to the disk by one sync.
     pub fn put(&mut self, batch: &[Vec<u8>]) -> Result<(), LogFault>
-        // At `Ok` all that was pending counts, whatever crash comes, and the batch is pending.
+        // At `Ok` the batch counts, whatever crash comes.
         ensures ok { Commits D.seen D.may_leave self.old self.new (records_of batch.now) result }
         ensures err { OnErr result ((self.new ≡ self.old) ⊎ (self.new.segment.broken ≡ true)) }
         ensures full { IsErrOf result LogFault.Full →
@@ -222,8 +222,9 @@ impl<D: Disk> Log<D> {
         ensures empty { IsErrOf result LogFault.Empty → AreSome (records_of batch.now) → ⊥ }
         ensures long { IsErrOf result LogFault.TooLong → AreInLimit (records_of batch.now) → ⊥ }
 
-        // A crash at any moment leaves a log of what counted, or of that with all that was pending.
-        ensures any_moment { LeavesCounted D.seen D.may_leave D.moment D.left_since self.old self.new }
+        // A crash at any moment leaves a log of what there was, or of that with the batch.
+        ensures any_moment { LeavesCounted D.seen D.may_leave D.moment D.left_since
+            self.old self.new (records_of batch.now) }
         ensures back { D.honest self.new.segment.disk → D.honest self.old.segment.disk }
     {
         test_batch(self.count, batch)?;
@@ -232,26 +233,11 @@ impl<D: Disk> Log<D> {
         Ok(())
     }
 
-    /// Brings all that is pending to the disk, so that it counts.
-    pub fn settle(&mut self) -> Result<(), LogFault>
-        ensures ok { Commits D.seen D.may_leave self.old self.new [] result }
-        ensures err { OnErr result (self.new.segment.broken ≡ true) }
-        ensures any_moment { LeavesCounted D.seen D.may_leave D.moment D.left_since self.old self.new }
-        ensures kept { self.new ≡ record self.old { segment = self.new.segment } }
-        ensures full { IsErrOf result LogFault.Full → ⊥ }
-        ensures long { IsErrOf result LogFault.TooLong → ⊥ }
-        ensures size { self.new.segment.reach ≡ self.old.segment.reach }
-        ensures number { self.new.segment.number ≡ self.old.segment.number }
-        ensures back { D.honest self.new.segment.disk → D.honest self.old.segment.disk }
-    {
-        self.segment.settle()?;
-        Ok(())
-    }
-
     // The head of the file behind the last one, as a batch.
     fn next_head(&self, oldest: u64, checkpoint: &[u8]) -> Result<Vec<Vec<u8>>, LogFault>
         ensures ok { IfOk result (λ out. IsNext self.now oldest checkpoint.now (records_of out.items)) }
         ensures room { OnOk result (self.now.segment.number < 2 ^ 62) }
+        ensures size { OnOk result (self.now.segment.reach < 2 ^ 60) }
         ensures full { IsErrOf result LogFault.Full →
             (2 ^ 62 ≤ self.now.segment.number) ⊎ (2 ^ 62 ≤ self.now.first)
             ⊎ (2 ^ 63 ≤ self.now.count) ⊎ (2 ^ 60 ≤ self.now.segment.reach) }
@@ -285,7 +271,6 @@ impl<D: Disk> Log<D> {
         ensures long { IsErrOf result LogFault.TooLong → 2 ^ 31 < length checkpoint.now + 40 }
         ensures back { D.honest self.new.segment.disk → D.honest self.old.segment.disk }
     {
-        self.settle()?;
         let next = self.next_head(oldest, checkpoint)?;
         let end = seal(self.alloc)?;
         self.segment.follow(&next, &end)?;
@@ -295,7 +280,7 @@ impl<D: Disk> Log<D> {
         Ok(())
     }
 
-    /// Ends the last file, once all that is pending counts, and begins the next one, whose head has this checkpoint and says below which number files may go.
+    /// Ends the last file, and begins the next one, whose head has this checkpoint and says below which number files may go.
     pub fn begin_next(&mut self, oldest: u64, checkpoint: &[u8]) -> Result<(), LogFault>
         ensures ok { GoesOn D.seen D.may_leave self.old self.new
             (next_head self.old (max oldest self.old.oldest) checkpoint.now) result }
@@ -305,7 +290,7 @@ impl<D: Disk> Log<D> {
             ⊎ (2 ^ 63 ≤ self.old.count) ⊎ (2 ^ 60 ≤ self.old.segment.reach) }
         ensures long { IsErrOf result LogFault.TooLong → 2 ^ 31 < length checkpoint.now + 40 }
 
-        // A crash at any moment leaves a log with the old head, or all records with the new one.
+        // A crash at any moment leaves a log of the same records, with the old head or the new one.
         ensures any_moment { LeavesGoing D.seen D.may_leave D.moment D.left_since self.old self.new
             (next_head self.old (max oldest self.old.oldest) checkpoint.now) }
         ensures back { D.honest self.new.segment.disk → D.honest self.old.segment.disk }
@@ -337,7 +322,7 @@ impl<D: Disk> Log<D> {
         Ok(true)
     }
 
-    /// How many records stand in the log, with those that are pending.
+    /// How many records stand in the log.
     pub fn len(&self) -> u64
         ensures { result ≡ min (self.now.first + self.now.count) (2 ^ 64 - 1) }
     {
@@ -349,13 +334,6 @@ impl<D: Disk> Log<D> {
         ensures { result ≡ self.now.segment.reach }
     {
         self.segment.size()
-    }
-
-    /// How many of them count whatever crash comes.
-    pub fn settled(&self) -> usize
-        ensures { result ≡ self.now.segment.end }
-    {
-        self.segment.settled()
     }
 
     /// The number of the last file.

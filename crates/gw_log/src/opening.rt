@@ -11,7 +11,7 @@ ghost use Rattle.gw_log.specs.own.Steps.{UpTo};
 use crate::disk::{Disk, DiskFault};
 use crate::fault::LogFault;
 use crate::head::read_head;
-use crate::reading::{read_records, record_at};
+use crate::reading::{End, read_records, record_at};
 use crate::segment::read_all;
 use crate::steps;
 use std::alloc::Global;
@@ -29,7 +29,7 @@ pub(crate) struct Place {
 pub(crate) struct Found {
     pub number: u64,
     pub records: Vec<Vec<u8>>,
-    pub end: usize,
+    pub end: End,
     pub place: Place,
     pub least: u64,
     pub top: u64,
@@ -40,9 +40,9 @@ fn read_file<D: Disk>(
     alloc: Global,
     disk: &mut D,
     number: u64,
-) -> Result<(Vec<Vec<u8>>, usize), LogFault>
+) -> Result<(Vec<Vec<u8>>, End), LogFault>
     ensures up { D.honest disk.new → IfOk result (λ r.
-        UpTo (D.seen disk.old number) r.1 (records_of r.0.items)) }
+        UpTo (D.seen disk.old number) r.1.gate r.1.reach r.1.size (records_of r.0.items)) }
     ensures damaged { D.honest disk.new → (segment at : ℕ) → IsErrOf result (LogFault.Damaged segment at) →
         IsDamagedAt at (D.seen disk.old number) }
     ensures reads { Reads D.seen D.may_leave D.moment D.left_since D.honest disk.old disk.new }
@@ -72,7 +72,7 @@ fn head_of<D: Disk>(alloc: Global, disk: &mut D, id: u64, number: u64) -> Result
     ensures reads { Reads D.seen D.may_leave D.moment D.left_since D.honest disk.old disk.new }
     ensures missing { IsErrOf result LogFault.Missing → ⊥ }
 {
-    let bytes = record_at(alloc, disk, number, 0)?;
+    let (bytes, _) = record_at(alloc, disk, number, 0)?;
     let misplaced = LogFault::Damaged {
         segment: number,
         at: 0,
@@ -136,10 +136,10 @@ fn last_born<D: Disk>(
     disk: &mut D,
     first: u64,
     top: u64,
-) -> Result<(u64, Vec<Vec<u8>>, usize), LogFault>
+) -> Result<(u64, Vec<Vec<u8>>, End), LogFault>
     requires { first ≤ top }
     ensures up { D.honest disk.new → IfOk result (λ r.
-        UpTo (D.seen disk.old r.0) r.2 (records_of r.1.items)) }
+        UpTo (D.seen disk.old r.0) r.2.gate r.2.reach r.2.size (records_of r.1.items)) }
     ensures last { D.honest disk.new → IfOk result (λ r. IsLastOf first top r.0 (D.seen disk.old)) }
     ensures low { IfOk result (λ r. first ≤ r.0) }
     ensures near { IfOk result (λ r. r.0 ≤ top) }
@@ -168,7 +168,7 @@ fn last_born<D: Disk>(
 // The last file of a folder. Nothing is changed.
 fn find<D: Disk>(alloc: Global, disk: &mut D, id: u64) -> Result<Found, LogFault>
     ensures up { D.honest disk.new → IfOk result (λ f.
-        UpTo (D.seen disk.old f.number) f.end (records_of f.records.items)) }
+        UpTo (D.seen disk.old f.number) f.end.gate f.end.reach f.end.size (records_of f.records.items)) }
     ensures found { D.honest disk.new → IfOk result (λ f.
         Finds id (D.seen disk.old) f.number f.place.first f.place.oldest f.least) }
     ensures linked { D.honest disk.new → IfOk result (λ f. AreLinked id (D.seen disk.old) f.least f.number) }
@@ -219,7 +219,7 @@ pub(crate) fn open_folder<D: Disk>(alloc: Global, disk: &mut D, id: u64) -> Resu
     ensures has { D.honest disk.new → IfOk result (λ f.
         Has (records_of f.records.items) (D.seen disk.old f.number)) }
     ensures staged { D.honest disk.new → IfOk result (λ f.
-        IsStaged D.seen D.may_leave disk.new f.number f.end f.end (records_of f.records.items) []) }
+        IsStaged D.seen D.may_leave 2 disk.new f.number f.end.reach f.end.reach (records_of f.records.items) []) }
     ensures found { D.honest disk.new → IfOk result (λ f.
         Finds id (D.seen disk.old) f.number f.place.first f.place.oldest f.least) }
     ensures below { D.honest disk.new → IfOk result (λ f.

@@ -28,7 +28,6 @@ fn write<R: Files<File = File> + AllocGlobal + Clone + Drop>(rt: &R) -> Result<u
     log.put(&batch(alloc, &[b"two"])?)?;
     log.begin_next(1, b"later")?;
     log.put(&batch(alloc, &[b"three"])?)?;
-    log.settle()?;
     Ok(log.len())
 }
 

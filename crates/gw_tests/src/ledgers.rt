@@ -19,7 +19,7 @@ struct Rows {
 impl Storage for Rows {
     ghost use Rattle.std.specs.Prelude.{⊤};
 
-    ghost stands = { λ s these those. ⊤ };
+    ghost stands = { λ s these. ⊤ };
 
     ghost leaves = { λ old new left. ⊤ };
 
@@ -29,10 +29,6 @@ impl Storage for Rows {
 
     fn put(&mut self, batch: &[Vec<u8>]) -> Result<(), JournalFault> {
         self.count = self.count.saturating_add(batch.len());
-        Ok(())
-    }
-
-    fn settle(&mut self) -> Result<(), JournalFault> {
         Ok(())
     }
 
@@ -53,7 +49,7 @@ impl Storage for Rows {
         (1, self.count)
     }
 
-    ghost at_rest = { λ s these those stands. tt };
+    ghost at_rest = { λ s these stands. tt };
 
     ghost goes_on = { λ old mid new left one other. tt };
 

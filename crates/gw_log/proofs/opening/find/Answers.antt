@@ -1,11 +1,15 @@
 use Rattle.std.proofs.Common.{◌∙◌}
 use Rattle.gw_log.proofs.Placing.{none_within}
-use Rattle.gw_log.proofs.Founding.{found_so, least_is, last_same, begins_same, top_so}
+use Rattle.gw_log.proofs.Founding.{up_same, found_so, least_is, last_same, begins_same, top_so}
 use Rattle.gw_log.proofs.Denying.{handed_on, none_of_same, none_up_same}
 use Rattle.gw_log.proofs.opening.find.Goals as goal
 
 pub returns-then-top-least-clause-missing : goal.returns-then-top-least-clause-missing
 returns-then-top-least-clause-missing g c = λ honest fault n. none_within _ _ _ c.if-top-least.true (c.in_ok-least.ensures.ends honest) n
+
+pub returns-clause-up : goal.returns-clause-up
+returns-clause-up g c = λ honest.
+    up_same _ _ _ _ _ _ _ c.ends.ensures.seen (c.in_ok-number.ensures.up (c.linked.ensures.reads.back honest))
 
 pub returns-clause-found : goal.returns-clause-found
 returns-clause-found g c = λ honest from head records log.
