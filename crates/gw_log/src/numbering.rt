@@ -20,7 +20,7 @@ fn id_in<D: Disk>(alloc: Global, disk: &mut D, number: u64) -> Result<u64, LogFa
     ensures reads { Reads D.seen D.may_leave D.moment D.left_since D.honest disk.old disk.new }
     ensures missing { IsErrOf result LogFault.Missing → ⊥ }
 {
-    let bytes = record_at(alloc, disk, number, 0)?;
+    let (bytes, _) = record_at(alloc, disk, number, 0)?;
     match read_head(&bytes) {
         Some(head) => Ok(head.id),
         None => Err(LogFault::Damaged {

@@ -10,9 +10,9 @@ returns-in_err-bytes-clause-damaged g c = λ honest segment at fault id n.
 
 pub returns-in-Some-clause-id : goal.returns-in-Some-clause-id
 returns-in-Some-clause-id g c = λ honest other number before has.
-    headed_by c.in-Some.head _ _ _ (c.in_ok-bytes.ensures.ok honest) c.deref.ensures.value c.in-Some.ensures.some c.in-Some.ensures.wide other number before has
+    headed_by c.in-Some.head _ _ _ (c.in_ok-bytes.ensures.ok honest).has c.deref.ensures.value c.in-Some.ensures.some c.in-Some.ensures.wide other number before has
     ∙ sym (ap (λ (h : Head). h.id) c.head.view_is)
 
 pub returns-clause-damaged : goal.returns-clause-damaged
 returns-clause-damaged g c = λ honest segment at fault id n.
-    no_head_there id n _ _ _ (c.in_ok-bytes.ensures.ok honest) c.deref.ensures.value c.in-None.ensures.none
+    no_head_there id n _ _ _ (c.in_ok-bytes.ensures.ok honest).has c.deref.ensures.value c.in-None.ensures.none
