@@ -1,4 +1,5 @@
 //! The command `gateway`: its words, its folder, its threads.
+ghost use Rattle.std.specs.Prelude.{◌≡◌};
 ghost use Rattle.std.specs.Thread.{IsSend, IsSync};
 
 use crate::ended::Ended;
@@ -7,7 +8,7 @@ use crate::gateway::folder::{Folder, Room, refuse_spools};
 use crate::gateway::forwarders::forward_all;
 use crate::gateway::hub::Hub;
 use crate::gateway::late::{look_at_all, look_at_files};
-use crate::gateway::opening::{Opened as Log, plan_of};
+use crate::gateway::opening::plan_of;
 use crate::gateway::page::{Pages, show_all};
 use crate::gateway::plans::begin_lines;
 use crate::gateway::senders::{attend, next_sender};
@@ -21,11 +22,14 @@ use crate::stamps::{microseconds, stamp_of};
 use clap::ArgMatches;
 use gw_ack::Stamp;
 use gw_gateway::{ByPlans, Office, PutFault};
+use gw_folder::RealFolder;
 use gw_journal::{Journal, Naming, Opened, Storage};
-use gw_ledger::{Checkpoints, Ledger};
+use gw_ledger::Ledger;
+use gw_opening::{Begun, Found};
 use gw_plan::Plan;
 use gw_stream::RunFault;
 use std::io::Eprint;
+use std::marker::Brand;
 use std::net::{Net, TcpListener, TcpStream};
 use std::os::fd::AsRawFd;
 use std::os::unix::net::UnixListener;
@@ -194,23 +198,27 @@ fn begin<'f, 'a, J: Naming, S: Storage + Drop, R: Runtime + Wait>(
     Ok(hub)
 }
 
-/// Keeps what it accepts in FOLDER, under the plan of the file PLAN, at ADDRESS, and answers the status.
-pub(crate) fn gateway<
+/// Goes on from the log that was opened, and answers the status.
+fn run<
     'a,
     J: Naming + Send + Sync,
+    F: Found<ByPlans>,
     R: Runtime + Threads + Wait + Net<Stream = TcpStream, Listener = TcpListener>,
->(rt: &R, words: &ArgMatches<'a>) -> Result<u8, Ended<'a>> {
-    let most = count_or(words, "connections", CONNECTIONS)?;
-    let Some(start) = stamp_of(rt, None) else {
-        return Err(Ended::Stamp);
-    };
-    let plan = read_plan(rt, words)?;
+>(
+    rt: &R,
+    words: &ArgMatches<'a>,
+    most: u64,
+    start: Stamp,
+    plan: Arc<Plan>,
+    opened: Opened,
+    begun: Begun<F, ByPlans, RealFolder<'_, R>>,
+) -> Result<u8, Ended<'a>>
+    requires book { opened.seen.book ≡ J.book }
+    requires before { J.before ≡ begun.before }
+{
     let path = words.get_str("FOLDER").unwrap_or("");
-    refuse_spools(rt, path)?;
-    let Log { stored, state } = opening::open::<Checkpoints, R>(rt, path)?;
-    let plan = plan_of(rt, words, plan, &state, stored.tail())?;
     let folder = Folder::open(rt, path)?;
-    let ledger = Ledger::<J, _, ByPlans>::open(rt.alloc(), Opened::new(), stored, state, LONG);
+    let ledger = begun.into_ledger::<J>(rt.alloc(), opened, LONG);
     let hub = begin(rt, ledger, plan, start, &folder)?;
     print_waiting(&hub);
     begin_lines(&hub)?;
@@ -227,4 +235,26 @@ pub(crate) fn gateway<
         );
     }
     Err(Ended::Run(fault))
+}
+
+/// Keeps what it accepts in FOLDER, under the plan of the file PLAN, at ADDRESS, and answers the status.
+/// It does so for each log that the folder may have.
+pub(crate) fn gateway<
+    'a,
+    F: Found<ByPlans>,
+    R: Runtime + Threads + Wait + Net<Stream = TcpStream, Listener = TcpListener>,
+>(
+    rt: &R,
+    words: &ArgMatches<'a>,
+) -> Result<u8, Ended<'a>> {
+    let most = count_or(words, "connections", CONNECTIONS)?;
+    let Some(start) = stamp_of(rt, None) else {
+        return Err(Ended::Stamp);
+    };
+    let plan = read_plan(rt, words)?;
+    let path = words.get_str("FOLDER").unwrap_or("");
+    refuse_spools(rt, path)?;
+    let begun = opening::open::<F, R>(rt, path)?;
+    let plan = plan_of(rt, words, plan, begun.state(), begun.tail())?;
+    run::<Brand, F, R>(rt, words, most, start, plan, Opened::new(), begun)
 }

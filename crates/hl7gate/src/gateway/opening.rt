@@ -4,24 +4,17 @@ use crate::plans::parse_plan;
 use crate::runtime::Runtime;
 use clap::ArgMatches;
 use gw_delivery::{PageFault, Past, Tail};
-use gw_due::{State, start};
-use gw_folder::{FolderView, OpenFault, RealFolder, find_id};
-use gw_journal::{JournalFault, Stored, Summary};
-use gw_log::{Disk, LogFault, Recorded};
+use gw_due::{StartFault, State};
+use gw_folder::{FolderView, RealFolder};
+use gw_gateway::ByPlans;
+use gw_log::LogFault;
+use gw_opening::{Begun, Found, OpenFault};
 use gw_plan::Plan;
 use gw_stream::RunFault;
 use std::alloc::Global;
 use std::fmt::Display;
-use std::marker::Brand;
 use std::random::RandomSource;
 use std::sync::Arc;
-
-/// A log that is open, and the state of what stands in it.
-#[derive(Drop)]
-pub(crate) struct Opened<K: Summary, D: Disk> {
-    pub(crate) stored: Stored<K, D>,
-    pub(crate) state: State,
-}
 
 /// That this was said of the folder at a path.
 fn unlisted<'a, F: Display + Drop>(
@@ -40,10 +33,10 @@ fn unlisted<'a, F: Display + Drop>(
 }
 
 /// What a fault of a folder is to who asked.
-fn unopened<'a>(alloc: Global, path: &'a str, fault: OpenFault) -> Ended<'a> {
+fn unopened<'a>(alloc: Global, path: &'a str, fault: gw_folder::OpenFault) -> Ended<'a> {
     match fault {
-        OpenFault::Memory => Ended::Run(RunFault::Memory),
-        OpenFault::Taken => Ended::Taken { path },
+        gw_folder::OpenFault::Memory => Ended::Run(RunFault::Memory),
+        gw_folder::OpenFault::Taken => Ended::Taken { path },
         fault => unlisted(alloc, path, fault, false),
     }
 }
@@ -57,58 +50,29 @@ fn new_id<'a, R: Runtime>(rt: &R) -> Result<u64, Ended<'a>> {
     }
 }
 
-/// The log over this disk, opened, or begun where there is none.
-fn open_over<'a, K: Summary, D: Disk + Drop, R: Runtime>(
-    rt: &R,
-    path: &'a str,
-    disk: D,
-) -> Result<Opened<K, D>, Ended<'a>> {
-    let alloc = rt.alloc();
-    let (id, disk) = match find_id(alloc, disk) {
-        Ok(found) => found,
-        Err(fault) => return Err(unlisted(alloc, path, fault, fault == LogFault::Memory)),
-    };
-    let Some(id) = id else {
-        return begin(rt, path, disk);
-    };
-    match Stored::open(alloc, disk, id) {
-        Err((fault, _disk)) => Err(unlisted(alloc, path, fault, fault == LogFault::Memory)),
-        Ok((stored, last)) => match start(alloc, last.checkpoint(), last.records()) {
-            Ok(state) => Ok(Opened { stored, state }),
-            Err(fault) => Err(unlisted(alloc, path, fault, false)),
-        },
-    }
+/// What a fault of the log in a folder is to who asked.
+fn unread<'a>(alloc: Global, path: &str, fault: OpenFault) -> Ended<'a> {
+    let is_memory = matches!(
+        fault,
+        OpenFault::Log(LogFault::Memory) | OpenFault::Start(StartFault::Memory)
+    );
+    unlisted(alloc, path, fault, is_memory)
 }
 
-/// A new log over this disk.
-fn begin<'a, K: Summary, D: Disk + Drop, R: Runtime>(
-    rt: &R,
-    path: &'a str,
-    disk: D,
-) -> Result<Opened<K, D>, Ended<'a>> {
-    let alloc = rt.alloc();
-    let state = State::new(alloc);
-    let mut checkpoint = Vec::new(alloc);
-    if state.spell(&mut checkpoint).is_err() {
-        return Err(Ended::Run(RunFault::Memory));
-    }
-    let id = new_id(rt)?;
-    match Stored::create(alloc, disk, id, &checkpoint) {
-        Err((fault, _disk)) => Err(unlisted(alloc, path, fault, fault == LogFault::Memory)),
-        Ok(stored) => Ok(Opened { stored, state }),
-    }
-}
-
-/// The log of a folder.
-pub(crate) fn open<'r, 'a, K: Summary, R: Runtime>(
+/// The log of a folder, opened, or begun where there is none.
+pub(crate) fn open<'r, 'a, F: Found<ByPlans>, R: Runtime>(
     rt: &'r R,
     path: &'a str,
-) -> Result<Opened<K, Recorded<RealFolder<'r, R>, Brand>>, Ended<'a>> {
+) -> Result<Begun<F, ByPlans, RealFolder<'r, R>>, Ended<'a>> {
     let folder = match RealFolder::open(rt, path) {
         Ok(folder) => folder,
         Err(fault) => return Err(unopened(rt.alloc(), path, fault)),
     };
-    open_over(rt, path, Recorded::<_, Brand>::new(folder))
+    let id = new_id(rt)?;
+    match gw_opening::open(rt.alloc(), folder, id) {
+        Ok(begun) => Ok(begun),
+        Err((fault, _disk)) => Err(unread(rt.alloc(), path, fault)),
+    }
 }
 
 /// Why what is left can't be sent: the plan at this place is none to this program.
