@@ -1,8 +1,7 @@
 -- What a crash leaves in a run of calls of a storage.
 use Rattle.std.proofs.Common.{◌≡◌, refl, sym, ap, subst, ◌∙◌, inl, inr, ℕ, List, [], ◌∷◌, ◌++◌, take, Option, None, Some, arith}
 use Rattle.std.specs.Prelude.{IfSome}
-use Rattle.std.specs.List.{AllByRecursion}
-use Rattle.gw_journal.specs.Logs.{Log, IsIn, AreAmong, NoneIsLost, outcomes, JobState, IsJob}
+use Rattle.gw_journal.specs.Logs.{Log, AreAmong, NoneIsLost, outcomes, JobState, IsJob}
 use Rattle.gw_journal.proofs.Logging.{get_take, given_all}
 
 -- what a job's checkpoint tells

@@ -206,6 +206,7 @@ module _ {S : Type 0} (stands : S → List (List ℕ) → Type 0) (before : List
     all = t.not_given;
     within = t.within;
     synced = omega (arith, t.synced, t.order);
+    room = t.room;
     fit = t.fit;
     keeps = t.keeps;
     told = tt;

@@ -177,6 +177,7 @@ pub record IsJob {S : Type 0} (stands : S → List (List ℕ) → Type 0) (tells
   pub all : job.batch ≡ drop job.given log.records
   pub within : job.given ≤ length log.records
   pub synced : log.synced ≤ job.given
+  pub room : length log.records ≤ 2 ^ 62
   pub fit : AreFit job.batch
   pub keeps : Keeps stands job.storage job.given log
   pub told : IfSome job.next (tells log.records)

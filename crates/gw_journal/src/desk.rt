@@ -267,9 +267,7 @@ impl<J: Naming, S: Storage + Drop> Desk<J, S> {
     fn is_ours(&self, done: &Done<J, S>) -> bool
         ensures { IsTrue result ↔ ComesBack self.now done.now }
     {
-        self.fault.is_none()
-            && done.given == self.given
-            && done.front.begins(self.history.front())
+        self.fault.is_none() && done.given == self.given && done.front.begins(self.history.front())
     }
 
     /// The storage comes back.
@@ -290,11 +288,7 @@ impl<J: Naming, S: Storage + Drop> Desk<J, S> {
             self.fail(JournalFault::Disk);
             return;
         }
-        let Done {
-            storage,
-            given,
-            ..
-        } = done;
+        let Done { storage, given, .. } = done;
         if !self.history.add(&Syncing { count: given }) {
             self.fault = Some(JournalFault::Full);
             return;

@@ -94,9 +94,11 @@ fn turn<S: Storage>(
 ) -> Result<(), JournalFault>
     requires { AreFit (records_of batch.now) }
     ensures ok { (these : List (List ℕ)) → S.stands storage.old these →
-        S.tells (these ++ records_of batch.now) checkpoint.now → OnOk result (S.stands storage.new (these ++ records_of batch.now)) }
+        S.tells (these ++ records_of batch.now) checkpoint.now →
+        OnOk result (S.stands storage.new (these ++ records_of batch.now)) }
     ensures any_moment { (these : List (List ℕ)) → S.stands storage.old these →
-        S.tells (these ++ records_of batch.now) checkpoint.now → S.leaves storage.old storage.new (these ∷ (these ++ records_of batch.now) ∷ []) }
+        S.tells (these ++ records_of batch.now) checkpoint.now →
+        S.leaves storage.old storage.new (these ∷ (these ++ records_of batch.now) ∷ []) }
     ensures err { IfErr result (λ fault. HasFailed S.fails storage.new fault) }
 {
     storage.put(batch)?;

@@ -1,5 +1,5 @@
 -- What holds of a log as a storage, for any journal.
-use Rattle.std.proofs.Common.{◌≡◌, refl, inl, ⊎_elim, ℕ, List, [], ◌∷◌, sym, ◌∙◌, subst}
+use Rattle.std.proofs.Common.{refl, inl, ⊎_elim, ℕ, List, [], ◌∷◌, sym, ◌∙◌, subst}
 use Rattle.gw_log.specs.Chain.{IsLog}
 use Rattle.gw_log.specs.Disk.{Files, LeavesOnly}
 use Rattle.gw_log.proofs.Logs.{log_as_is}
