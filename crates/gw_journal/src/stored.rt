@@ -98,6 +98,7 @@ impl<K: Summary, D: Disk> Stored<K, D> {
         ensures ok { IfOk result (λ s. Held K.tells D.honest D.seen D.may_leave s []) }
         ensures id { IfOk result (λ s. s.id ≡ id) }
         ensures back { IfOk result (λ s. D.honest (disk_of s) → D.honest disk) }
+        ensures back_err { IfErr result (λ e. D.honest e.1 → D.honest disk) }
     {
         match Log::create(alloc, disk, id, checkpoint) {
             Err(failed) => Err(failed),

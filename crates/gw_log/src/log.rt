@@ -129,6 +129,7 @@ impl<D: Disk> Log<D> {
         ensures untouched { IfErr result (λ e. e.0 ≡ LogFault.Taken → Only (D.seen disk) (D.may_leave e.1)) }
         ensures seen { IfErr result (λ e. e.0 ≡ LogFault.Taken → D.seen e.1 ≡ D.seen disk) }
         ensures back { IfOk result (λ log. D.honest log.segment.disk → D.honest disk) }
+        ensures back_err { IfErr result (λ e. D.honest e.1 → D.honest disk) }
     {
         let mut disk = disk;
         let head = match head_alone(alloc, &mut disk, id, checkpoint) {

@@ -172,6 +172,7 @@ impl<D: Disk> Segment<D> {
         ensures others { IfOk result (λ s. (other : ℕ) → other ≢ number → D.seen s.disk other ≡ D.seen disk other) }
         ensures taken { IfErr result (λ e. e.0 ≡ LogFault.Taken → ⊥) }
         ensures back { IfOk result (λ s. D.honest s.disk → D.honest disk) }
+        ensures back_err { IfErr result (λ e. D.honest e.1 → D.honest disk) }
     {
         let mut disk = disk;
         let bytes = match spell(alloc, records, SHUT) {

@@ -71,7 +71,7 @@ module _ (Routes : (names : List Name) (plan to bytes : List ℕ) → Type 0) wh
       λ these spells. one_reading (map spelled entries) entries these (record { are = refl; fit = fit }) spells in
       record {
         counted = ap (λ (s : State). s.next) is ∙ (stands Routes (events_of entries) lawful).says.next
-            ∙ length-map (λ (e : Entry). e.event) entries ∙ sym (length-map spelled entries);
+            ∙ length-map entries (λ (e : Entry). e.event) ∙ sym (length-map entries spelled);
         is = λ these spells. is ∙ ap (λ es. state_of (events_of es)) (one these spells);
         lawful = λ _ these spells. subst (λ es. Lawful Routes (events_of es)) (one these spells) lawful;
       }

@@ -1,5 +1,5 @@
 -- The log of a gateway isn't refused.
-use Rattle.std.proofs.Common.{◌≡◌, ◌⊎◌, inl, inr, ℕ, suc, ◌+◌, ◌<◌, ◌≤◌, List, [], ◌∷◌, ◌++◌, length, map, take, drop, get_or, Option, Some, None, refl, ap, sym, ◌∙◌, subst, append_assoc, arith}
+use Rattle.std.proofs.Common.{◌≡◌, ◌⊎◌, inl, inr, true, ℕ, suc, ◌+◌, ◌<◌, ◌≤◌, List, [], ◌∷◌, ◌++◌, length, map, take, drop, get_or, Option, Some, None, refl, ap, sym, ◌∙◌, subst, append_assoc, arith}
 use Rattle.std.proofs.Math.Seq.{split_at, take-append_seam, drop-append_seam}
 use Rattle.std.specs.Prelude.{IfSome}
 use Rattle.std.specs.List.{AllByRecursion, fold}
@@ -10,12 +10,24 @@ use Rattle.gw_due.specs.Events.{Event, Planned, Accepted, Again, Passed, Named, 
 use Rattle.gw_due.specs.Lawful.{Lawful, no_event, one_more, MayFollow}
 use Rattle.gw_due.specs.Spelling.{Entry, Fits, spelled}
 use Rattle.gw_due.specs.Starting.{Refuses, Starts, StopsAt}
-use Rattle.gw_due.specs.State.{State, state_of}
+use Rattle.gw_due.specs.State.{State, allows, state_of}
 use Rattle.gw_due.proofs.Deciding.{decides}
 use Rattle.gw_due.proofs.Stating.{stands}
-use Rattle.gw_journal.specs.Stored.{EndsWith, LastState}
+use Rattle.gw_due.specs.declared.fault.StartFault.TheVariants.{Checkpoint, Record, Memory as StartMemory, Full as StartFull}
+use Rattle.gw_journal.specs.Stored.{EndsWith, LastState, TellsLast}
+use Rattle.gw_log.specs.Chain.{Head, IsLog, IsNoLog, Origin}
+use Rattle.gw_log.specs.Disk.{Files}
+use Rattle.gw_log.specs.declared.fault.LogFault.{LogFault}
+use Rattle.gw_log.specs.declared.fault.LogFault.TheVariants.{Memory as LogMemory, Device, Full as LogFull, TooLong, Empty, Taken, Missing, Damaged}
+use Rattle.gw_log.proofs.Logs.{before_le}
+use Rattle.gw_log.proofs.Placing.{some_there}
 use Rattle.gw_ledger.specs.Ledgers.{Spells, Tells, events_of}
 use Rattle.gw_ledger.proofs.Ledging.{front_spelled, lawful_part}
+use Rattle.gw_opening.specs.Begun.{IsSound}
+use Rattle.gw_opening.specs.Folders.{HasNoFile, IsGatewayLog}
+use Rattle.gw_opening.specs.declared.fault.OpenFault.{OpenFault}
+use Rattle.gw_opening.specs.declared.fault.OpenFault.TheVariants.{Log, Start, Numbers}
+use Rattle.gw_opening.specs.own.Alike.{IsCause}
 use Rattle.gw_opening.proofs.Reading.{first_is}
 
 module _ (Routes : (names : List Name) (plan to bytes : List ℕ) → Type 0) where
@@ -73,7 +85,7 @@ module _ (Routes : (names : List Name) (plan to bytes : List ℕ) → Type 0) wh
       let rows_are : rows ≡ map spelled back =
       append_cancel_left ends.before rows (map spelled back)
       (sym ends.split ∙ ap (map spelled) front.is ∙ map-append spelled front.front back ∙ sym (ap (λ l. l ++ map spelled back) front.spells.are)) in
-      let count : length rows ≡ length back = ap length rows_are ∙ length-map spelled back in
+      let count : length rows ≡ length back = ap length rows_are ∙ length-map back spelled in
       let here : Entry = get_or back at (record { time = 0; event = Margin 0 }) in
       let cut : back ≡ take at back ++ here ∷ drop (suc at) back = split_at back at (record { time = 0; event = Margin 0 }) (omega (arith, within, count)) in
       let upto : List Entry = front.front ++ take at back in
@@ -94,3 +106,35 @@ module _ (Routes : (names : List Name) (plan to bytes : List ℕ) → Type 0) wh
       let row : get_or rows at [] ≡ spelled here = ap (λ l. get_or l at []) rows_are
           ∙ get_or-map spelled back at (record { time = 0; event = Margin 0 }) [] (omega (arith, within, count)) in
       stops.there here fits.1.0 row (subst (λ s. allows s here.event ≡ true) (sym state_is) allowed)
+
+  -- ---- no fault speaks against such a log
+
+  pub some_file : (id : ℕ) (files : Files) (from : Origin) (head : Head) (records : List (List ℕ)) → IsLog id files from head records → HasNoFile files → ⊥
+  some_file id files from head records log none =
+      some_there id files from head records log head.number (before_le id files head from.number from.first from.before log.front log.ended) (omega arith) (none head.number)
+
+  pub log_sound : (id : ℕ) (files : Files) (entries : List Entry) (fault : LogFault) → IsGatewayLog Routes id files entries
+      → ((segment at : ℕ) → fault ≡ Damaged segment at → IsNoLog id files) → (fault ≡ Missing → HasNoFile files) → IsSound (Log fault)
+  log_sound id files entries (Damaged segment at) is damaged missing = damaged segment at refl is.kept.from is.kept.head is.kept.kept is.kept.log
+  log_sound id files entries Missing is damaged missing = some_file id files is.kept.from is.kept.head is.kept.kept is.kept.log (missing refl)
+  log_sound id files entries LogMemory is damaged missing = tt
+  log_sound id files entries Device is damaged missing = tt
+  log_sound id files entries LogFull is damaged missing = tt
+  log_sound id files entries TooLong is damaged missing = tt
+  log_sound id files entries Empty is damaged missing = tt
+  log_sound id files entries Taken is damaged missing = tt
+
+  pub state_sound : (id : ℕ) (files : Files) (entries : List Entry) (last_file : LastState) (fault : OpenFault) → IsGatewayLog Routes id files entries
+      → TellsLast Tells id files last_file → IsCause last_file fault → IsSound fault
+  state_sound id files entries last_file (Log fault) is tells cause = absurd cause
+  state_sound id files entries last_file (Start Checkpoint) is tells cause =
+      let ends = tells (map spelled entries) is.kept in
+      let front = front_spelled ends.before last_file.records entries (record { are = sym ends.split; fit = is.fit }) in
+      let told = ends.told front.front front.spells in
+      cause (state_of (events_of front.front)) told.fits told.spells
+  state_sound id files entries last_file (Start (Record at)) is tells cause =
+      not_stopped entries last_file at is.fit is.lawful (tells (map spelled entries) is.kept) cause.0 cause.1
+  state_sound id files entries last_file (Start StartMemory) is tells cause = tt
+  state_sound id files entries last_file (Start (StartFull at)) is tells cause = tt
+  state_sound id files entries last_file Numbers is tells cause =
+      cause.1.1 (numbers_below entries cause.0 is.lawful (first_is entries last_file cause.0 is.fit (tells (map spelled entries) is.kept) cause.1.0))

@@ -1,3 +1,4 @@
 mod Alike
 mod Reading
 mod Denying
+mod Founding

@@ -3,7 +3,9 @@ use Rattle.std.proofs.Common.{◌≡◌, ◌⊎◌, inl, inr, ℕ, List, [], ◌
 use Rattle.std.specs.List.{AllByRecursion, fold}
 use Rattle.std.proofs.lemmas.List.{length-map, map-append, nil_from_length}
 use Rattle.std.proofs.lemmas.List.Sums.{fold-append}
-use Rattle.gw_due.specs.Events.{Event}
+use mathlib.Core.List.{IsPrefix}
+use Rattle.gw_due.specs.Due.{Name}
+use Rattle.gw_due.specs.Lawful.{Lawful}
 use Rattle.gw_due.specs.Checkpoint.{checkpoint, StateFits}
 use Rattle.gw_due.specs.Spelling.{Entry, Fits, spelled}
 use Rattle.gw_due.specs.Starting.{LeadsTo, none, more, Starts}
@@ -12,7 +14,8 @@ use Rattle.gw_due.proofs.StateForms.{one_state}
 use Rattle.gw_journal.specs.Stored.{EndsWith, IsKept, LastState, TellsLast}
 use Rattle.gw_log.specs.Disk.{Files}
 use Rattle.gw_ledger.specs.Ledgers.{IsCheckpoint, Spells, Tells, events_of}
-use Rattle.gw_ledger.proofs.Ledging.{fits_more, front_spelled, next_from, one_reading}
+use Rattle.gw_ledger.proofs.Ledging.{fits_more, front_spelled, left_lawful, next_from, one_reading}
+use Rattle.gw_opening.specs.Folders.{IsFoundAgain}
 use Rattle.gw_opening.specs.own.Alike.{IsStateBy, IsStateIn}
 
 -- ---- entries of the records that lead from the one state to the other
@@ -44,8 +47,8 @@ spells_all these those a b p q = record {
 }
   where
     both : (a b : List Entry) → AllByRecursion Fits a → AllByRecursion Fits b → AllByRecursion Fits (a ++ b)
-    both [] b all more = more
-    both (e ∷ a) b all more = (all.0, both a b all.1 more)
+    both [] b all rest = rest
+    both (e ∷ a) b all rest = (all.0, both a b all.1 rest)
 
 pub first_is : (entries : List Entry) (last : LastState) (first : State) → AllByRecursion Fits entries → EndsWith Tells (map spelled entries) last
     → Starts last.checkpoint last.records first → first ≡ state_of (events_of entries)
@@ -75,3 +78,21 @@ state_in id files last s tells by entries kept fit =
       | inl same ↦ same ∙ first
       | inr new ↦ new.1 ∙ none_yet entries by.first first new.0
     ]
+
+-- ---- the next start
+
+pub found_again : (Routes : (names : List Name) (plan to bytes : List ℕ) → Type 0) (id : ℕ) (files : Files) (all whole : List (List ℕ)) (entries : List Entry)
+    → IsKept Tells id files all → IsPrefix all whole → Spells whole entries → Lawful Routes (events_of entries) → IsFoundAgain Routes id files all
+found_again Routes id files all whole entries kept part spells lawful =
+    let left = left_lawful Routes all whole entries part spells lawful in
+    record {
+      entries = left.entries;
+      are = left.spells.are;
+      log = record { kept = subst (λ rs. IsKept Tells id files rs) left.spells.are kept; fit = left.spells.fit; lawful = left.lawful };
+    }
+
+-- the checkpoint of a new log
+pub tells_none : (s : State) (bytes spelt : List ℕ) → bytes ≡ spelt → spelt ≡ checkpoint s → StateFits s → s ≡ nothing → Tells [] bytes
+tells_none s bytes spelt same is fits new entries spells =
+    let none : [] ≡ entries = one_reading [] [] entries (record { are = refl; fit = tt }) spells in
+    subst (λ t. IsCheckpoint t bytes) (new ∙ ap (λ es. state_of (events_of es)) none) (record { spells = same ∙ is; fits = fits })

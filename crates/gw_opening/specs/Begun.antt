@@ -1,5 +1,5 @@
 -- A log that is open, and the state of all that stands in it.
-use Rattle.std.specs.Prelude.{◌≡◌, ◌<◌, ⊤, ℕ, List, [], IfSome}
+use Rattle.std.specs.Prelude.{◌≡◌, ◌<◌, ⊤, ℕ, List, IfSome}
 use Rattle.gw_due.specs.Due.{Name}
 use Rattle.gw_due.specs.State.{State}
 use Rattle.gw_journal.specs.Stored.{Held, StoredState}
@@ -16,11 +16,11 @@ pub record BegunState (D : Type 0) : Type 0 where
   pub state : State
   pub before : List (List ℕ)
 
--- The log has all these records, on the disk, whatever crash comes, and none is pending, if the disk did what its calls answered.
+-- The log has all these records, on the disk, whatever crash comes, if the disk did what its calls answered.
 -- This is their state
 pub record IsBegun {D : Type 0} (Routes : (names : List Name) (plan to bytes : List ℕ) → Type 0) (honest : D → Type 0) (seen : D → Files)
     (may_leave : D → Files → Type 0) (b : BegunState D) : Type 0 where
-  pub held : Held Tells honest seen may_leave b.stored b.before []
+  pub held : Held Tells honest seen may_leave b.stored b.before
   pub state : IsInState Routes ⊤ b.before b.state
   pub numbers : IfSome b.state.last (λ n. n < b.state.margin)
 

@@ -22,3 +22,9 @@ HasNoFile files = (number : ℕ) → files number ≡ []
 -- such a log, or no file
 abbrev pub IsFolder : (Routes : (names : List Name) (plan to bytes : List ℕ) → Type 0) → ℕ → Files → List Entry → Type 0
 IsFolder Routes id files entries = IsGatewayLog Routes id files entries ⊎ (HasNoFile files × (entries ≡ []))
+
+-- they are such a log, which has these records
+pub record IsFoundAgain (Routes : (names : List Name) (plan to bytes : List ℕ) → Type 0) (id : ℕ) (files : Files) (records : List (List ℕ)) : Type 0 where
+  pub entries : List Entry
+  pub are : records ≡ map spelled entries
+  pub log : IsGatewayLog Routes id files entries

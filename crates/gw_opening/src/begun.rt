@@ -27,7 +27,9 @@ impl<F: Found<R>, R: Rules, C: Calls + Drop> Model for Begun<F, R, C> {
 
     ghost view = { λ b. record { stored = b.stored; state = b.state; before = before_of F.entries b.state } };
 
-    ghost invariant = { λ b. IsBegun R.routes (history.IsHonest F.files) (history.seen_after F.files) (history.may_after F.files) b };
+    ghost invariant = { λ b.
+        IsBegun R.routes (history.IsHonest F.files) (history.seen_after F.files) (history.may_after F.files)
+        (record { stored = b.stored; state = b.state; before = before_of F.entries b.state }) };
 }
 
 impl<F: Found<R>, R: Rules, C: Calls + Drop> Begun<F, R, C> {

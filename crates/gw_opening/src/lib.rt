@@ -6,6 +6,7 @@
 mod begun;
 mod fault;
 mod found;
+pub mod laws;
 mod opening;
 
 pub use begun::Begun;

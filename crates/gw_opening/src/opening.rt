@@ -26,15 +26,16 @@ type Started<D> = Result<(Stored<Checkpoints, D>, State), (OpenFault, D)>;
 // A new log of this number, in a folder without a file.
 fn begin<D: Disk + Drop>(alloc: Global, disk: D, id: u64) -> Started<D>
     requires durable { Only (D.seen disk) (D.may_leave disk) }
-    ensures ok { IfOk result (λ r. Held Tells D.honest D.seen D.may_leave r.0 [] []) }
+    ensures ok { IfOk result (λ r. Held Tells D.honest D.seen D.may_leave r.0 []) }
     ensures state { IfOk result (λ r. r.1 ≡ spec.nothing) }
     ensures back { IfOk result (λ r. D.honest (disk_of r.0) → D.honest disk) }
+    ensures back_err { IfErr result (λ e. D.honest e.1 → D.honest disk) }
 {
     let state = State::new(alloc);
     let mut checkpoint = Vec::new(alloc);
-    if state.spell(&mut checkpoint).is_err() {
+    let Ok(()) = state.spell(&mut checkpoint) else {
         return Err((OpenFault::Log(LogFault::Memory), disk));
-    }
+    };
     match Stored::create(alloc, disk, id, &checkpoint) {
         Err((fault, disk)) => Err((OpenFault::Log(fault), disk)),
         Ok(stored) => Ok((stored, state)),
@@ -65,7 +66,7 @@ fn state_by(alloc: Global, last: &LastFile) -> Result<State, OpenFault>
 fn go_on<R: Rules, D: Disk + Drop>(alloc: Global, disk: D, id: u64) -> Started<D>
     requires durable { Only (D.seen disk) (D.may_leave disk) }
     ensures ok { IfOk result (λ r. (all : List (List ℕ)) → IsKept Tells id (D.seen disk) all →
-        Held Tells D.honest D.seen D.may_leave r.0 all []) }
+        Held Tells D.honest D.seen D.may_leave r.0 all) }
     ensures state { IfOk result (λ r. D.honest (disk_of r.0) → IsStateIn id (D.seen disk) r.1) }
     ensures none { IfOk result (λ r. r.1.next ≡ 0 → r.1 ≡ spec.nothing) }
     ensures numbers { IfOk result (λ r. IfSome r.1.last (λ n. n < r.1.margin)) }
@@ -99,13 +100,13 @@ pub fn open<F: Found<R>, R: Rules, C: Calls + Drop>(
     let mut disk = Recorded::<C, Had<F, R>>::new(calls);
     match find_id(alloc, &mut disk) {
         Err(fault) => Err((OpenFault::Log(fault), disk)),
-        Ok(None) => {
-            let (stored, state) = begin(alloc, disk, id)?;
-            Ok(Begun { stored, state })
-        }
-        Ok(Some(id)) => {
-            let (stored, state) = go_on::<R, _>(alloc, disk, id)?;
-            Ok(Begun { stored, state })
-        }
+        Ok(None) => match begin(alloc, disk, id) {
+            Err(failed) => Err(failed),
+            Ok((stored, state)) => Ok(Begun { stored, state }),
+        },
+        Ok(Some(id)) => match go_on::<R, _>(alloc, disk, id) {
+            Err(failed) => Err(failed),
+            Ok((stored, state)) => Ok(Begun { stored, state }),
+        },
     }
 }
