@@ -217,6 +217,15 @@ impl Lines {
         }
     }
 
+    /// The line of the receiver of this name.
+    pub(crate) fn named<R: Wait>(&self, rt: &R, name: &[u8]) -> Option<Arc<Line>> {
+        let all = self.all.lock(rt);
+        match all.iter().find(|line| line.name.as_slice() == name) {
+            Some(line) => line.clone().ok(),
+            None => None,
+        }
+    }
+
     /// A copy of the list.
     pub(crate) fn all<R: Wait>(&self, rt: &R, alloc: Global) -> Result<Vec<Arc<Line>>, AllocError> {
         let mut copies = Vec::new(alloc);
