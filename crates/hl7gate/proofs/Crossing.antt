@@ -26,7 +26,7 @@ use Rattle.core.specs.contracts.sync.Mutex as Mutex
 use Rattle.gw_ack.specs.contracts.stamp.Stamp as Stamp
 use Rattle.gw_stream.specs.contracts.fault.RunFault as RunFault
 use Rattle.gw_ack.proofs.stamp.Stamp.TheSendSync as stamp
-use Rattle.gw_gate.proofs.Crossing.{Chapter-send, Gate-send}
+use Rattle.gw_gate.proofs.Crossing.{Chapter-send}
 use Rattle.gw_run.proofs.Crossing.{LockedGate-sync, Receipts-send}
 use Rattle.gw_delivery.proofs.Crossing.{Plans-sync}
 use Rattle.gw_gateway.proofs.Crossing.{Office-send}
@@ -203,7 +203,3 @@ sent-one δ ν A a = param_send 1 (arg δ no (TupleAt ν (A ∷ []))) (arg_send 
 pub sent-two : (δ : Ty) (ν : Sym) (A B : RattleType) → IsSend A → IsSend B → IsSend (param 1 (arg δ no (TupleAt ν (A ∷ B ∷ []))))
 sent-two δ ν A B a b = param_send 1 (arg δ no (TupleAt ν (A ∷ B ∷ []))) (arg_send δ no (TupleAt ν (A ∷ B ∷ []))
     (declared_send (type_at ν (A ∷ B ∷ [])) (as_row_send (row_field A) a, (as_row_send (row_field B) b, tt))))
-
-pub sent-three : (δ : Ty) (ν : Sym) (A B C : RattleType) → IsSend A → IsSend B → IsSend C → IsSend (param 1 (arg δ no (TupleAt ν (A ∷ B ∷ C ∷ []))))
-sent-three δ ν A B C a b c = param_send 1 (arg δ no (TupleAt ν (A ∷ B ∷ C ∷ []))) (arg_send δ no (TupleAt ν (A ∷ B ∷ C ∷ []))
-    (declared_send (type_at ν (A ∷ B ∷ C ∷ [])) (as_row_send (row_field A) a, (as_row_send (row_field B) b, (as_row_send (row_field C) c, tt)))))
