@@ -168,6 +168,7 @@ def nearly_long(with_last):
 def room_ends(gateway):
     """The disk is full when the next file of the log is to be begun: the reserve's room is taken for that. Where that is gone too nothing is answered AA, and the
     gateway ends. Either way the next start sends all that was answered AA."""
+    gateway.until += 120
     one = Receiver()
     gateway.receivers, others = {"ONE": one}, gateway.folder / "others"
     (gateway.room / "plan").write_text(plan_for({"ONE": one.address}))
