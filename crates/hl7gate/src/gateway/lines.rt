@@ -100,6 +100,8 @@ impl Line {
         let mut stand = self.stand.lock(rt);
         stand.is_held = is_held;
         stand.is_hurried = !is_held;
+        // (its forwarder may have looked already, and not wait yet)
+        stand.is_rung = true;
         self.bell.notify_all();
     }
 
