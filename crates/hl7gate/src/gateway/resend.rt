@@ -12,12 +12,11 @@ use gw_ledger::Message;
 use gw_stream::RunFault;
 use std::alloc::{AllocError, Global};
 use std::collections::VecDeque;
-use std::io;
 use std::io::Write;
 use std::os::unix::net::UnixStream;
 use std::sync::{Arc, Mutex, Wait};
-use std::thread;
 use std::time::Duration;
+use std::{io, thread};
 
 /// After how many milliseconds the thread looks whether somebody asks.
 const LOOK: u64 = 50;
@@ -158,9 +157,7 @@ fn attend<J: Naming, S: Storage + Drop, R: Runtime + Wait>(
 }
 
 /// Answers one after another who asks, until the gateway ends.
-pub(crate) fn resend_all<J: Naming, S: Storage + Drop, R: Runtime + Wait>(
-    hub: &Hub<'_, J, S, R>,
-) {
+pub(crate) fn resend_all<J: Naming, S: Storage + Drop, R: Runtime + Wait>(hub: &Hub<'_, J, S, R>) {
     for _ in hub.rt.forever() {
         if hub.has_ended() {
             return;
