@@ -337,9 +337,9 @@ def fill(path):
 
 
 @contextlib.contextmanager
-def small_disk(folder):
+def small_disk(folder, size=RESERVE + BESIDE):
     """A disk of its own under this folder, while it is used."""
-    made = subprocess.run(["mount", "-t", "tmpfs", "-o", f"size={RESERVE + BESIDE}", "none", folder], capture_output=True, text=True)
+    made = subprocess.run(["mount", "-t", "tmpfs", "-o", f"size={size}", "none", folder], capture_output=True, text=True)
     if made.returncode:
         raise Skipped(f"a disk of its own can't be mounted here: {made.stderr.splitlines()[0]}")
     try:

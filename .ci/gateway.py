@@ -171,6 +171,12 @@ class Gateway:
         for secret in SECRETS:
             same(f"lines with {secret} of a message", [], [it for it in self.lines if secret in it])
 
+    def stop(self):
+        """Is stopped by the word: what its receivers acknowledged is on the disk then."""
+        same("stop", (0, "stops: what waits is sent by the next start\n"), self.tell("stop"))
+        same("its status", 0, self.process.wait(20))
+        self.reader.join(1)
+
     def close(self):
         """Whatever came of it, nothing of it goes on."""
         if self.process:

@@ -9,8 +9,9 @@ import threading
 import time
 from concurrent.futures import ThreadPoolExecutor
 
-from gateway import REPORT, Receiver
+from gateway import REPORT, Receiver, numbered
 from loopback import ANSWERS, Differs, same
+from preload import library_in
 
 # (nobody listens at this address)
 NOBODY = "127.0.0.1:1"
@@ -209,4 +210,44 @@ def reordered(gateway):
     for name, *stated in zip(names, first, then):
         # (the second is answered AR, once its receiver is gone)
         receivers[name].has(stated[:1] if name == "TWO" else stated, gateway.until)
+    gateway.kill()
+
+
+# Lets no thread begin while the file of NONE is there.
+THREADS = r"""
+extern long syscall(long, ...);
+extern char *getenv(const char *);
+extern void *dlsym(void *, const char *);
+enum { ACCESS = 21, AGAIN = 11 };
+int pthread_create(void *thread, const void *how, void *(*begin)(void *), void *with) {
+    int (*create)(void *, const void *, void *(*)(void *), void *) = dlsym((void *)-1L, "pthread_create");
+    return syscall(ACCESS, getenv("NONE"), 0L) ? create(thread, how, begin, with) : AGAIN;
+}
+"""
+
+
+def no_thread(gateway, closed=3):
+    """A connection for which no thread can be started is closed. Sessions, words and receivers go on meanwhile, and a later connection is answered."""
+    gateway.play(WARDS=Receiver(), ARCHIVE=Receiver())
+    none = gateway.room / "none"
+    gateway.start(env={"LD_PRELOAD": str(library_in(gateway.room, "threads", THREADS)), "NONE": str(none)})
+    for receiver in gateway.receivers.values():
+        gateway.wait(f"receiver \\w+ at {receiver.address} connected")
+    line = gateway.client()
+    gateway.answered(line.ask([REPORT]), [numbered(1)])
+    none.write_text("")
+    for at in range(closed):
+        answer = b"none yet"
+        with contextlib.suppress(ConnectionError):
+            answer = gateway.client().block()
+        if answer and answer != b"none yet":
+            raise Differs(f"a connection without a thread got {answer!r}")
+        gateway.answered(line.ask([REPORT]), [numbered(2 + at)])
+    gateway.wait("no thread can be started for a connection: it is closed", closed)
+    same("swap", (0, "swapped 1\n"), gateway.tell("swap", "plan"))
+    same("connections that are open", 1, gateway.status()["connections"])
+    none.unlink()
+    gateway.answered(gateway.ask([REPORT]), [numbered(2 + closed)])
+    for name, receiver in gateway.receivers.items():
+        receiver.gets(name, [b"LAB0007"], gateway.until, repeats=closed + 1)
     gateway.kill()

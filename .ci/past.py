@@ -6,12 +6,13 @@ import os
 import re
 import shutil
 import subprocess
+import threading
 import time
 
-from disks import NOW, begun, lay, report
-from gateway import REPORT, Receiver, control
+from disks import BESIDE, NOW, begun, fill, lay, report, small_disk
+from gateway import REPORT, RESERVE, Receiver, control, logged
 from loads import message, plan_for, routed
-from log_files import TAKEN, accepted, again, chain, margin, name, named, passed, planned, refused, state
+from log_files import TAKEN, accepted, again, chain, margin, named, passed, planned, refused, state
 from loopback import ANSWERS, LEFT, MESSAGES, Differs, same
 from preload import library_in
 
@@ -70,19 +71,19 @@ def plan_differs(gateway):
     for word in "--take-plan", "--keep-plan":
         if word not in lines:
             raise Differs(f"{lines!r} doesn't say {word}")
+    same("a start with both", (2, "error: the argument '--take-plan' cannot be used with '--keep-plan'"), (lambda it: (it[0], it[1].split("\n")[0]))(ran(gateway, "--take-plan", "--keep-plan")))
     same("the log then", before, sorted((it.name, it.read_bytes()) for it in gateway.folder.glob("*.segment")))
     swapped = LEFT["ARCHIVE"][0].replace(b"|P|2.5.1\r", b"|P|2.5\r")
     gateway.start("--keep-plan")
     gateway.ask([REPORT])
     gateway.receivers["ARCHIVE"].has([swapped], gateway.until)
-    # (so that its acknowledgment is on the disk)
     same("what waits", [0, 0], gateway.once([0, 0], gateway.waiting))
-    gateway.kill()
+    gateway.stop()
     gateway.start("--take-plan")
     gateway.ask([REPORT])
     gateway.receivers["ARCHIVE"].has([swapped, LEFT["ARCHIVE"][0]], gateway.until)
     same("what waits", [0, 0], gateway.once([0, 0], gateway.waiting))
-    gateway.kill()
+    gateway.stop()
     gateway.start()
     gateway.kill()
 
@@ -151,17 +152,76 @@ def rests(gateway, seconds=6):
         before, now = now, used()
 
 
-def lies_refused(gateway, large=66, limit=67_108_864):
+# Behind how many bytes the next file of the log is begun, and how many messages of a million bytes it has then at most.
+LIMIT, LARGE = 64 << 20, 66
+
+
+def bulk(size=1_000_000):
+    return message(b"BULK", bulk=b"x" * size)[1:-2]
+
+
+def nearly_long(with_last):
+    """A log to whose last file a start's plan may be added, and hardly more. `with_last` makes it with a last message of this size."""
+    return with_last(LIMIT - 1_200 - len(list(with_last(0).values())[-1]))
+
+
+def room_ends(gateway):
+    """The disk is full when the next file of the log is to be begun: the reserve's room is taken for that. Where that is gone too nothing is answered AA, and the
+    gateway ends. Either way the next start sends all that was answered AA."""
+    gateway.until += 120
+    one = Receiver()
+    gateway.receivers, others = {"ONE": one}, gateway.folder / "others"
+    (gateway.room / "plan").write_text(plan_for({"ONE": one.address}))
+    records = [named(NOW, 1, b"ONE", one.address.encode()), planned(NOW, (gateway.room / "plan").read_bytes()), margin(NOW, 10_001)]
+    for number in range(LARGE):
+        records += [accepted(NOW, 1 + number, [1], bulk()), passed(NOW, 1, len(records), TAKEN)]
+    files = nearly_long(lambda size: chain([[*records, accepted(NOW, 1 + LARGE, [1], bulk(size))]]))
+    begun_files = lambda: len(list(gateway.folder.glob("*.segment")))
+    for has_reserve in True, False:
+        one.close()
+        one.blocks.clear()
+        with small_disk(gateway.folder, LIMIT + BESIDE + (RESERVE if has_reserve else 0)):
+            lay(gateway, files)
+            if not has_reserve:
+                # (it has its size, and no room)
+                with open(gateway.folder / "reserve", "wb") as reserve:
+                    reserve.truncate(RESERVE)
+            gateway.start()
+            while (gateway.folder / "reserve").stat().st_size < RESERVE and time.monotonic() < gateway.until:
+                time.sleep(0.01)
+            fill(others)
+            line, answered = gateway.client(), []
+            for name in (b"LAST%02d" % it for it in range(40)):
+                try:
+                    code = codes(line.ask([message(name)]))[0]
+                except ConnectionError:
+                    code = b"none"
+                if code != b"AA":
+                    break
+                answered.append(name)
+            if has_reserve:
+                same("how many files the log has, and what the reserve has", (2, 0), (begun_files(), (gateway.folder / "reserve").stat().st_size))
+                gateway.kill()
+            else:
+                same("the last code", b"none", code)
+                gateway.ends(3, ["fault 3"])
+            others.unlink()
+            gateway.start()
+            one.open(one.port)
+            one.gets("ONE", [b"BULK", *answered], gateway.until)
+            gateway.kill()
+
+
+def lies_refused(gateway):
     """A file is taken away when the next is begun, if all its messages were passed. One stays that has what lies refused, until that came again and was taken."""
     gateway.until += 180
     one = Receiver()
     gateway.receivers = {"ONE": one}
     (gateway.room / "plan").write_text(plan_for({"ONE": one.address}))
     text, address = (gateway.room / "plan").read_bytes(), one.address.encode()
-    content = lambda size=0: message(b"BULK", bulk=b"x" * size)[1:-2]
-    plan, bulk = planned(NOW, text), content(1_000_000)
-    first = [named(NOW, 1, b"ONE", address), plan, margin(NOW, 10_001), accepted(NOW, 1, [1], content()), passed(NOW, 1, 3, TAKEN)]
-    second = [plan, accepted(NOW, 2, [1], content()), passed(NOW, 1, 6, refused(1, b""))]
+    plan = planned(NOW, text)
+    first = [named(NOW, 1, b"ONE", address), plan, margin(NOW, 10_001), accepted(NOW, 1, [1], bulk(0)), passed(NOW, 1, 3, TAKEN)]
+    second = [plan, accepted(NOW, 2, [1], bulk(0)), passed(NOW, 1, 6, refused(1, b""))]
     checkpoints = {2: state(5, [(1, b"ONE", address, 4)], plan=1, last=1, below=10_001), 3: state(8, [(1, b"ONE", address, 7, 0, 1)], plan=5, last=2, below=10_001)}
     for what, third, stated in (
         ("one lies refused in the second", [plan], [2, 3, 4]),
@@ -169,11 +229,10 @@ def lies_refused(gateway, large=66, limit=67_108_864):
     ):
         one.close()
         one.blocks.clear()
-        for at in range(large):
-            third = [*third, accepted(NOW, 3 + at, [1], bulk), passed(NOW, 1, 8 + len(third), TAKEN)]
-        # (the last file is nearly as long as one may be: the start's plan fits, and behind the next messages another file is begun)
-        with_last = lambda size: chain([first, second, [*third, accepted(NOW, 3 + large, [1], content(size)), passed(NOW, 1, 8 + len(third), TAKEN)]], checkpoints=checkpoints)
-        lay(gateway, with_last(limit - 1_200 - len(with_last(0)[name(3)])))
+        for at in range(LARGE):
+            third = [*third, accepted(NOW, 3 + at, [1], bulk()), passed(NOW, 1, 8 + len(third), TAKEN)]
+        last = lambda size: [accepted(NOW, 3 + LARGE, [1], bulk(size)), passed(NOW, 1, 8 + len(third), TAKEN)]
+        lay(gateway, nearly_long(lambda size: chain([first, second, [*third, *last(size)]], checkpoints=checkpoints)))
         gateway.start()
         # (so that the files have been looked at)
         rests(gateway)
@@ -232,7 +291,7 @@ def clock_back(gateway):
     for name, receiver in gateway.receivers.items():
         receiver.has(LEFT[name] * 2, gateway.until)
     same("what waits", [0, 0], gateway.once([0, 0], gateway.waiting))
-    gateway.kill()
+    gateway.stop()
     gateway.start()
     gateway.ask([REPORT])
     gateway.receivers["ARCHIVE"].has(LEFT["ARCHIVE"] * 2 + LEFT["ARCHIVE"][:1], gateway.until)
@@ -254,3 +313,72 @@ def folder_gone(gateway):
         except ConnectionError:
             pass
         gateway.ends(3, ["fault 3"])
+
+
+def refusals_turn(gateway):
+    """At 64 MB the log of refusals is put aside, in the place of the one before, and goes on in a new file: each line is in the one or the other."""
+    gateway.play(WARDS=Receiver(), ARCHIVE=Receiver())
+    log, aside = (gateway.folder / it for it in ("refusals.log", "refusals.log.1"))
+    aside.write_text("the one before\n")
+    with open(log, "wb") as file:
+        file.truncate(LIMIT - 1)
+    gateway.start()
+    refused = [logged(it) for it in ANSWERS if b"MSA|AA" not in it]
+    without = lambda it: re.sub(r"^(?:\d{14}|NOW) session (\d) G\d+ ", r"session \1 ", it)
+    for session in 1, 2:
+        gateway.ask(MESSAGES)
+        gateway.wait("folder/refusals.log had 64 MB: it is refusals.log.1 now")
+        seen = lambda: [without(it) for it in (aside.read_bytes()[LIMIT - 1 :] + log.read_bytes()).decode().splitlines()]
+        stated = [without(f"NOW session {it} {line}") for it in range(1, session + 1) for line in refused]
+        same("the lines of both", stated, gateway.once(stated, seen))
+    same("how often it was put aside, and the mode of the new one", (1, 0o600), (len(gateway.found(".*it is refusals.log.1 now")), log.stat().st_mode & 0o777))
+    gateway.kill()
+
+
+# Has each read of a file take five milliseconds while the file of SLOW is there.
+SLOW = r"""
+typedef unsigned long size;
+extern long syscall(long, ...);
+extern char *getenv(const char *);
+enum { PREAD = 17, ACCESS = 21, NANOSLEEP = 35 };
+long pread64(int file, void *bytes, size length, long at) {
+    long time[2] = { 0, 5000000 };
+    if (!syscall(ACCESS, getenv("SLOW"), 0L)) syscall(NANOSLEEP, time, 0L);
+    return syscall(PREAD, file, bytes, length, at);
+}
+long pread(int file, void *bytes, size length, long at) { return pread64(file, bytes, length, at); }
+"""
+
+
+def resend_waits(gateway, count=2_000):
+    """While `resend` reads the log other words, senders and receivers are attended to at once."""
+    gateway.play(WARDS=Receiver(), ARCHIVE=Receiver())
+    slow, told = gateway.room / "slow", []
+    records = [*begun(gateway), report(1, [1]), passed(NOW, 1, 4, refused(1, b""))]
+    for number in range(2, count):
+        records += [report(number, [1]), passed(NOW, 1, len(records), TAKEN)]
+    lay(gateway, chain([records]))
+    gateway.start(env={"LD_PRELOAD": str(library_in(gateway.room, "slow", SLOW)), "SLOW": str(slow)})
+    for receiver in gateway.receivers.values():
+        gateway.wait(f"receiver \\w+ at {receiver.address} connected")
+    line = gateway.client()
+    same("resend", (0, "resent 1\n"), gateway.tell("resend", "WARDS"))
+    # (so that both forwarders have read up to the log's end)
+    line.ask([REPORT])
+    gateway.receivers["WARDS"].has(LEFT["WARDS"][:1] * 2, gateway.until)
+    gateway.receivers["ARCHIVE"].has(LEFT["ARCHIVE"][:1], gateway.until)
+    slow.write_text("")
+    asks = threading.Thread(target=lambda: told.append(gateway.tell("resend", "WARDS")), daemon=True)
+    asks.start()
+    for at in range(5):
+        time.sleep(0.2)
+        since = time.monotonic()
+        same("status, and an answer", (0, [b"AA"]), (gateway.tell("status")[0], codes(line.ask([REPORT]))))
+        gateway.receivers["ARCHIVE"].has(LEFT["ARCHIVE"][:1] * (at + 2), since + 2)
+        if time.monotonic() - since > 2:
+            raise Differs(f"a word, an answer and a message took {time.monotonic() - since:.1f} s")
+    same("what `resend` has said by then", [], told)
+    slow.unlink()
+    asks.join(20)
+    same("what it said in the end", [(0, "resent 0\n")], told)
+    gateway.kill()

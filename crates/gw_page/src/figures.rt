@@ -34,13 +34,12 @@ pub struct Refused {
     pub count: u64,
 }
 
-/// The gateway: the time (UTC, YYYYMMDDHHMMSS), the number of its round and of its plan, how many messages it accepted and refused,
-/// how many connections are open and how many there were, how many entries its journal has, whether its disk is short of room,
+/// The gateway: the time (UTC, YYYYMMDDHHMMSS), the number of its plan, how many messages it accepted and refused,
+/// how many connections are open and how many there were, how many records its log has, whether its disk is short of room,
 /// whether it can't go on, its receivers, how often each code refused, and its last refusals.
 #[derive(Drop)]
 pub struct Figures {
     pub time: [u8; 14],
-    pub rounds: u64,
     pub plan: u64,
     pub accepted: u64,
     pub refused: u64,

@@ -17,6 +17,7 @@ use Rattle.std.proofs.sync.ledger.Share.TheSendSync as share
 use Rattle.std.specs.contracts.net.SocketAddr as SocketAddr
 use Rattle.std.specs.contracts.net.TcpStream as TcpStream
 use Rattle.std.specs.contracts.net.unix.UnixListener as Control
+use Rattle.std.specs.contracts.net.unix.UnixStream as Local
 use Rattle.hl7gate.specs.contracts.gateway.page.Pages as Pages
 use Rattle.core.specs.contracts.atomic.AtomicBool as Flag
 use Rattle.core.specs.contracts.atomic.AtomicU64 as Count
@@ -25,7 +26,7 @@ use Rattle.core.specs.contracts.sync.Mutex as Mutex
 use Rattle.gw_ack.specs.contracts.stamp.Stamp as Stamp
 use Rattle.gw_stream.specs.contracts.fault.RunFault as RunFault
 use Rattle.gw_ack.proofs.stamp.Stamp.TheSendSync as stamp
-use Rattle.gw_gate.proofs.Crossing.{Chapter-send, Gate-send}
+use Rattle.gw_gate.proofs.Crossing.{Chapter-send}
 use Rattle.gw_run.proofs.Crossing.{LockedGate-sync, Receipts-send}
 use Rattle.gw_delivery.proofs.Crossing.{Plans-sync}
 use Rattle.gw_gateway.proofs.Crossing.{Office-send}
@@ -37,6 +38,8 @@ use Rattle.gw_journal.specs.declared.book.Naming as naming
 use Rattle.gw_journal.specs.declared.storage.Storage as storage
 use Rattle.hl7gate.specs.contracts.gateway.folder.Folder as Folder
 use Rattle.hl7gate.specs.contracts.gateway.hub.Hub as Hub
+use Rattle.hl7gate.specs.contracts.gateway.resend.Ask as Ask
+use Rattle.hl7gate.specs.contracts.gateway.resend.Asks as Asks
 use Rattle.hl7gate.specs.contracts.gateway.lines.Line as Waits
 use Rattle.hl7gate.specs.contracts.gateway.lines.Lines as Lines
 use Rattle.hl7gate.specs.contracts.gateway.lines.Stand as Stand
@@ -94,6 +97,16 @@ Waits-sync = as_row_sync Waits.the_field (search (Stand-send, crosses, sendable)
 Lines-sync : IsSync (Lines.the_field).row
 Lines-sync = search (Waits-send, Waits-sync, crosses, sendable) depth 60 fits 50000
 
+-- who waits for the answer of `resend`
+Local-send : IsSend (Local.the_field).row
+Local-send = search (crosses, sendable) depth 60 fits 50000
+
+Ask-send : IsSend (Ask.the_field).row
+Ask-send = search (Waits-send, Waits-sync, Local-send, crosses, sendable) depth 60 fits 50000
+
+Asks-sync : IsSync (Asks.the_field).row
+Asks-sync = search (Ask-send, crosses, sendable) depth 60 fits 50000
+
 Watch-sync : IsSync (Watch.the_field).row
 Watch-sync = search (crosses, sendable) depth 60 fits 50000
 
@@ -135,7 +148,7 @@ Hub-sync a J S R j s h r = declared_sync (Hub.the_type a J S R j s) (
             (
               as_row_sync Watch.the_field Watch-sync,
               (
-                Count-sync,
+                as_row_sync Asks.the_field Asks-sync,
                 (
                   Count-sync,
                   (
@@ -147,12 +160,15 @@ Hub-sync a J S R j s h r = declared_sync (Hub.the_type a J S R j s) (
                         (
                           Count-sync,
                           (
-                            Flag-sync,
+                            Count-sync,
                             (
                               Flag-sync,
                               (
                                 Flag-sync,
-                                (as_row_sync (Mutex.the_field (Option.the_row RunFault.the_row)) (search (crosses, sendable) depth 60 fits 50000), tt),
+                                (
+                                  Flag-sync,
+                                  (as_row_sync (Mutex.the_field (Option.the_row RunFault.the_row)) (search (crosses, sendable) depth 60 fits 50000), tt),
+                                ),
                               ),
                             ),
                           ),
@@ -187,7 +203,3 @@ sent-one δ ν A a = param_send 1 (arg δ no (TupleAt ν (A ∷ []))) (arg_send 
 pub sent-two : (δ : Ty) (ν : Sym) (A B : RattleType) → IsSend A → IsSend B → IsSend (param 1 (arg δ no (TupleAt ν (A ∷ B ∷ []))))
 sent-two δ ν A B a b = param_send 1 (arg δ no (TupleAt ν (A ∷ B ∷ []))) (arg_send δ no (TupleAt ν (A ∷ B ∷ []))
     (declared_send (type_at ν (A ∷ B ∷ [])) (as_row_send (row_field A) a, (as_row_send (row_field B) b, tt))))
-
-pub sent-three : (δ : Ty) (ν : Sym) (A B C : RattleType) → IsSend A → IsSend B → IsSend C → IsSend (param 1 (arg δ no (TupleAt ν (A ∷ B ∷ C ∷ []))))
-sent-three δ ν A B C a b c = param_send 1 (arg δ no (TupleAt ν (A ∷ B ∷ C ∷ []))) (arg_send δ no (TupleAt ν (A ∷ B ∷ C ∷ []))
-    (declared_send (type_at ν (A ∷ B ∷ C ∷ [])) (as_row_send (row_field A) a, (as_row_send (row_field B) b, (as_row_send (row_field C) c, tt)))))

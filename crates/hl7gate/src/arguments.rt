@@ -52,6 +52,9 @@ const ON_GATEWAY: &[(&str, &str, &str)] = &[
     ),
 ];
 
+/// Two options of which a call has one at most.
+const EITHER: (&str, &str) = ("take-plan", "keep-plan");
+
 /// What `check` and `translate` need.
 const ON_MAP: &[(&str, &str)] = &[
     ("SOURCE", "The file of the sender's message profile"),
@@ -262,7 +265,11 @@ fn command<'a>(alloc: Global, form: &Form) -> Result<Command<'a>, AllocError> {
         command = command.arg(word(alloc, name, help, false))?;
     }
     for (name, value, help) in form.options {
-        command = command.arg(option(alloc, name, value, help))?;
+        let mut option = option(alloc, name, value, help);
+        if *name == EITHER.0 {
+            option = option.conflicts_with(EITHER.1)?;
+        }
+        command = command.arg(option)?;
     }
     Ok(command)
 }

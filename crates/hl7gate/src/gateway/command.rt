@@ -11,6 +11,7 @@ use crate::gateway::late::{look_at_all, look_at_files};
 use crate::gateway::opening::plan_of;
 use crate::gateway::page::{Pages, show_all};
 use crate::gateway::plans::begin_lines;
+use crate::gateway::resend::resend_all;
 use crate::gateway::senders::{attend, next_sender};
 use crate::gateway::{control, opening};
 use crate::plans::read_plan;
@@ -66,9 +67,13 @@ fn look_at_disk<J: Naming, S: Storage + Drop, R: Wait + Clock + Eprint>(hub: &Hu
     if is_full && !was_full {
         let _ = eprintln!(hub.rt; "the disk is full: nothing is sent until there is some room");
     }
-    if hub.folder.turn_long() {
+}
+
+/// Has the log of refusals go on in a new file where it is long.
+fn look_at_log<J: Naming, S: Storage + Drop, R: Runtime + Wait>(hub: &Hub<'_, J, S, R>) {
+    if let Ok(true) = hub.folder.turn_log(hub.rt) {
         let _ = eprintln!(hub.rt;
-            "{}/refusals.log has 64 MB: no line is added until it is cut",
+            "{}/refusals.log had 64 MB: it is refusals.log.1 now",
             hub.folder.path
         );
     }
@@ -85,6 +90,7 @@ fn watch_all<J: Naming, S: Storage + Drop, R: Runtime + Wait>(hub: &Hub<'_, J, S
             if hub.has_ended() {
                 return;
             }
+            look_at_log(hub);
             thread::sleep(hub.rt, Duration::from_millis(200));
         }
     }
@@ -119,9 +125,13 @@ fn go_on<
             let show = move ||
                 requires { IsSend S.row × IsSync S.row × IsSync R.row }
             { show_all(hub, pages) };
+            let again = move ||
+                requires { IsSend S.row × IsSync S.row × IsSync R.row }
+            { resend_all(hub) };
             let has_all = scope.spawn(look).is_ok()
                 && scope.spawn(hear).is_ok()
-                && scope.spawn(show).is_ok();
+                && scope.spawn(show).is_ok()
+                && scope.spawn(again).is_ok();
             if !has_all {
                 hub.fail(RunFault::Memory);
             }

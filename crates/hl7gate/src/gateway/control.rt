@@ -2,7 +2,7 @@
 use crate::ended::Ended;
 use crate::gateway::hub::Hub;
 use crate::gateway::plans::take_file;
-use crate::gateway::resend::resend;
+use crate::gateway::resend::Ask;
 use crate::gateway::status::state;
 use crate::runtime::Runtime;
 use crate::sockets::{listen_briefly, pause};
@@ -57,30 +57,24 @@ pub(crate) fn listen<'a, R: Files<File = File> + Net + AllocGlobal>(
     }
 }
 
-/// Holds a receiver's messages back, or sends them on, or what it refused once more.
+/// Holds a receiver's messages back, or sends them on.
 fn tell_line<J: Naming, S: Storage + Drop, R: Runtime + Wait>(
     hub: &Hub<'_, J, S, R>,
     word: &str,
     name: &str,
 ) -> Result<String, AllocError> {
     let alloc = hub.rt.alloc();
-    let lines = hub.lines.all(hub.rt, alloc)?;
-    let Some(line) = lines
-        .iter()
-        .find(|line| line.name.as_slice() == name.as_bytes())
-    else {
-        return format!(in alloc; "refused: no receiver of the plan has this name\n");
-    };
-    match word {
-        "resend" => resend(hub, line),
-        "hold" => {
+    match (word, hub.lines.named(hub.rt, name.as_bytes())) {
+        ("hold", Some(line)) => {
             line.hold(hub.rt, true);
             format!(in alloc; "held: {name} is sent nothing until `go {name}`, or a restart\n")
         }
-        _ => {
+        ("go", Some(line)) => {
             line.hold(hub.rt, false);
             format!(in alloc; "goes: {name} is sent what waits\n")
         }
+        // (where there is such a receiver, `resend` is answered by its own thread)
+        _ => format!(in alloc; "refused: no receiver of the plan has this name\n"),
     }
 }
 
@@ -115,7 +109,7 @@ fn read_line<R: AllocGlobal>(rt: &R, stream: &UnixStream) -> io::Result<String> 
     }
 }
 
-/// Answers one connection.
+/// Answers one connection, or has it wait for the thread that answers `resend`.
 fn attend<J: Naming, S: Storage + Drop, R: Runtime + Wait>(
     hub: &Hub<'_, J, S, R>,
     stream: UnixStream,
@@ -123,8 +117,15 @@ fn attend<J: Naming, S: Storage + Drop, R: Runtime + Wait>(
     stream.set_read_timeout(Some(Duration::from_secs(PATIENCE)))?;
     stream.set_write_timeout(Some(Duration::from_secs(PATIENCE)))?;
     let line = read_line(hub.rt, &stream)?;
+    let line = line.trim_end();
+    if let Some(("resend", name)) = line.split_once(' ')
+        && let Some(line) = hub.lines.named(hub.rt, name.as_bytes())
+    {
+        hub.asks.put(hub.rt, Ask { line, stream })?;
+        return Ok(());
+    }
+    let text = answer(hub, line)?;
     let mut writer = stream;
-    let text = answer(hub, line.trim_end())?;
     writer.write_all(text.as_bytes())
 }
 

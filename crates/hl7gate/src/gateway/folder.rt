@@ -6,13 +6,13 @@ use std::fs::{File, OpenOptions, metadata};
 use std::io::ErrorKind;
 use std::os::unix::fs::{FileExt, OpenOptionsExt};
 use std::rt::Files;
-use std::sync::atomic::{AtomicBool, Ordering};
+use std::sync::{Mutex, Wait};
 use std::{fs, io};
 
 /// How many bytes of the disk are kept free for what was accepted.
 const RESERVE: u64 = 67_108_864;
 
-/// How many bytes the log of refusals has at most, or hardly more.
+/// From how many bytes on the log of refusals goes on in a new file.
 const LONG: u64 = 67_108_864;
 
 /// How many bytes are written at once.
@@ -23,7 +23,8 @@ const PAGE: &[u8] =
     b"The log of a gateway for HL7 messages (hl7gate gateway): what it accepted, and what its receivers took.
 
 N.segment     the log, in numbered files; `hl7gate log FOLDER` lists it. Don't edit them: a changed byte is damage
-refusals.log  a line for each message that was answered AE or AR, and for each receiver whose first waits for more than a minute
+refusals.log  a line for each message that was answered AE or AR, and for each receiver whose first waits for more than a minute.
+              At 64 MB it is refusals.log.1, and a new one is begun
 reserve       room on the disk for what was accepted, used when the disk is full
 control       the socket of `hl7gate tell FOLDER`
 
@@ -35,8 +36,7 @@ These files hold patients' data. Copy or move them only while no gateway works h
 pub(crate) struct Folder {
     pub(crate) path: String,
     reserve: File,
-    log: File,
-    is_log_long: AtomicBool,
+    log: Mutex<File>,
 }
 
 /// What came of a call on a file of the folder, or that the file can't be made or written.
@@ -133,26 +133,31 @@ impl Folder {
         Ok(Folder {
             path: String::from_str(alloc, path)?,
             reserve,
-            log,
-            is_log_long: AtomicBool::new(false),
+            log: Mutex::new(log),
         })
     }
 
-    /// Adds a line to the log of refusals, unless that is long.
-    pub(crate) fn add(&self, line: &[u8]) {
-        if !self.is_log_long.load(Ordering::SeqCst) {
-            // (the file is opened to be added to)
-            let _ = self.log.write_all_at(line, 0);
-        }
+    /// Adds a line to the log of refusals.
+    pub(crate) fn add<R: Wait>(&self, rt: &R, line: &[u8]) {
+        // (the file is opened to be added to)
+        let _ = self.log.lock(rt).write_all_at(line, 0);
     }
 
-    /// Whether the log of refusals has come to be long since the last look.
-    pub(crate) fn turn_long(&self) -> bool {
-        let is_long = match self.log.metadata() {
-            Ok(of) => of.len() >= LONG,
-            Err(_) => false,
-        };
-        !self.is_log_long.swap(is_long, Ordering::SeqCst) && is_long
+    /// Begins a new log of refusals where the one is long. That is `refusals.log.1` then.
+    pub(crate) fn turn_log<'a, R: Wait + Files<File = File> + AllocGlobal>(
+        &self,
+        rt: &R,
+    ) -> Result<bool, Ended<'a>> {
+        match self.log.lock(rt).metadata() {
+            Ok(of) if of.len() >= LONG => {}
+            _ => return Ok(false),
+        }
+        let path = format!(in rt.alloc(); "{}/refusals.log", self.path)?;
+        let long = format!(in rt.alloc(); "{path}.1")?;
+        let is_moved = fs::rename(rt, path.as_str(), long.as_str()).is_ok();
+        let log = open_file(rt, &self.path, "refusals.log", true)?;
+        *self.log.lock(rt) = log;
+        Ok(is_moved)
     }
 
     /// What room the disk has. Where the reserve was used it is filled again, if there is room for it.

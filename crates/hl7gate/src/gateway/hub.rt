@@ -1,6 +1,7 @@
 //! What the threads of a gateway share.
 use crate::gateway::folder::Folder;
 use crate::gateway::lines::Lines;
+use crate::gateway::resend::Asks;
 use crate::gateway::watch::Watch;
 use gw_ack::Stamp;
 use gw_delivery::{Plans, Tail};
@@ -24,6 +25,7 @@ pub(crate) struct Hub<'f, J: Naming, S: Storage + Drop, R: Wait> {
     pub(crate) plans: Plans,
     pub(crate) lines: Lines,
     pub(crate) watch: Watch,
+    pub(crate) asks: Asks,
     /// How many connections are open; and how many there were, how many messages were accepted, and how many plans were taken since the start.
     pub(crate) open: AtomicU64,
     pub(crate) sessions: AtomicU64,
@@ -56,6 +58,7 @@ impl<'f, J: Naming, S: Storage + Drop, R: Wait> Hub<'f, J, S, R> {
             plans: Plans::new(alloc),
             lines: Lines::new(alloc),
             watch: Watch::new(alloc)?,
+            asks: Asks::new(alloc),
             open: AtomicU64::new(0),
             sessions: AtomicU64::new(0),
             accepted: AtomicU64::new(0),

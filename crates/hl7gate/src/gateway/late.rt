@@ -32,7 +32,7 @@ fn report<J: Naming, S: Storage + Drop, R: Wait + Clock + Eprint + AllocGlobal>(
     let _ = eprintln!(hub.rt; "{said}");
     let stamp = stamp_of(hub.rt, None).unwrap_or(hub.start);
     let dated = format!(in alloc; "{} {said}\n", stamp.digits().escape_ascii())?;
-    hub.folder.add(dated.as_bytes());
+    hub.folder.add(hub.rt, dated.as_bytes());
     Ok(())
 }
 

@@ -100,6 +100,8 @@ impl Line {
         let mut stand = self.stand.lock(rt);
         stand.is_held = is_held;
         stand.is_hurried = !is_held;
+        // (its forwarder may have looked already, and not wait yet)
+        stand.is_rung = true;
         self.bell.notify_all();
     }
 
@@ -212,6 +214,15 @@ impl Lines {
     pub(crate) fn find<R: Wait>(&self, rt: &R, number: u32) -> Option<Arc<Line>> {
         let all = self.all.lock(rt);
         match all.iter().find(|line| line.number == number) {
+            Some(line) => line.clone().ok(),
+            None => None,
+        }
+    }
+
+    /// The line of the receiver of this name.
+    pub(crate) fn named<R: Wait>(&self, rt: &R, name: &[u8]) -> Option<Arc<Line>> {
+        let all = self.all.lock(rt);
+        match all.iter().find(|line| line.name.as_slice() == name) {
             Some(line) => line.clone().ok(),
             None => None,
         }

@@ -1,7 +1,7 @@
 //! The page, the metrics and the health of a gateway, over HTTP: one connection at a time, for five seconds at most.
 use crate::ended::Ended;
 use crate::gateway::hub::Hub;
-use crate::gateway::status::{Shown, all_shown};
+use crate::gateway::status::all_shown;
 use crate::gateway::watch::Seen;
 use crate::sockets::{listen_briefly, pause};
 use crate::stamps::{stamp_of, time_in};
@@ -80,18 +80,14 @@ fn receivers_of<J: Naming, S: Storage + Drop, R: Wait + Clock + AllocGlobal>(
 ) -> Result<Vec<Receiver>, AllocError> {
     let alloc = hub.rt.alloc();
     let mut receivers = Vec::new(alloc);
-    for Shown {
-        line,
-        stand,
-        left,
-        ..
-    } in &all_shown(hub)? {
+    for shown in &all_shown(hub)? {
+        let stand = &shown.stand;
         receivers.push(Receiver {
-            name: Vec::from_slice(alloc, &line.name)?,
+            name: Vec::from_slice(alloc, &shown.line.name)?,
             is_connected: stand.is_connected,
             is_held: stand.is_held,
             down: stand.down(hub.rt),
-            waiting: *left,
+            waiting: shown.left,
             oldest: stand.stuck(hub.rt),
             sent: stand.sent,
             aa: stand.aa,
@@ -114,7 +110,6 @@ pub(crate) fn figures_of<J: Naming, S: Storage + Drop, R: Wait + Clock + AllocGl
     } = hub.watch.seen(hub.rt, hub.rt.alloc())?;
     Ok(Figures {
         time: time_in(stamp_of(hub.rt, None).unwrap_or(hub.start).digits()),
-        rounds: 0,
         plan: hub.taken.load(Ordering::SeqCst),
         accepted: hub.accepted.load(Ordering::SeqCst),
         refused,

@@ -72,7 +72,7 @@ impl<'a, 'f, J: Naming, S: Storage + Drop, R: Wait> Logged<'a, 'f, J, S, R> {
         let control = word_of(self.alloc, answer, b"MSA", 2)?;
         let line = line_of(self.alloc, &refusal, &control)?;
         self.hub.watch.note(self.hub.rt, refusal);
-        self.hub.folder.add(line.as_bytes());
+        self.hub.folder.add(self.hub.rt, line.as_bytes());
         Ok(())
     }
 }
@@ -186,23 +186,16 @@ fn refusal_of(alloc: Global, session: u64, answer: &Message) -> Result<Refusal, 
 
 /// The line of an answer: its time, the session, its number, the message's control id, MSA-1, and the code and place of ERR.
 fn line_of(alloc: Global, refusal: &Refusal, control: &[u8]) -> Result<String, AllocError> {
-    let Refusal {
-        time,
-        session,
-        number,
-        answer,
-        code,
-        place,
-    } = refusal;
+    let session = refusal.session;
     let control = if control.is_empty() { b"-" } else { control };
-    let gap = if place.is_empty() { "" } else { " " };
+    let gap = if refusal.place.is_empty() { "" } else { " " };
     format!(in alloc;
         "{} session {session} {} {} {} {}{gap}{}\n",
-        time.escape_ascii(),
-        number.escape_ascii(),
+        refusal.time.escape_ascii(),
+        refusal.number.escape_ascii(),
         control.escape_ascii(),
-        answer.escape_ascii(),
-        code.escape_ascii(),
-        place.escape_ascii()
+        refusal.answer.escape_ascii(),
+        refusal.code.escape_ascii(),
+        refusal.place.escape_ascii()
     )
 }

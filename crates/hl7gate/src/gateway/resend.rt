@@ -1,4 +1,6 @@
 //! The word `resend`: what a receiver refused is due to it once more.
+//!
+//! All files of the log are read for that, so a thread of its own does it.
 use crate::gateway::hub::Hub;
 use crate::gateway::lines::Line;
 use crate::runtime::Runtime;
@@ -7,26 +9,72 @@ use gw_delivery::{Keeper, PageFault, Pages};
 use gw_folder::FolderView;
 use gw_journal::{Naming, Storage};
 use gw_ledger::Message;
-use std::alloc::AllocError;
-use std::sync::Wait;
+use gw_stream::RunFault;
+use std::alloc::{AllocError, Global};
+use std::collections::VecDeque;
+use std::io::Write;
+use std::os::unix::net::UnixStream;
+use std::sync::{Arc, Mutex, Wait};
+use std::time::Duration;
+use std::{io, thread};
 
-/// That a folder can't be opened now.
-const UNOPENED: PageFault = PageFault::Damaged { segment: 0, at: 0 };
+/// After how many milliseconds the thread looks whether somebody asks.
+const LOOK: u64 = 50;
 
-/// Where the messages stand that lie refused by a receiver.
+/// Somebody asks for what this receiver refused, and waits for the answer.
+#[derive(Drop)]
+pub(crate) struct Ask {
+    pub(crate) line: Arc<Line>,
+    pub(crate) stream: UnixStream,
+}
+
+/// Who asks, in order.
+#[derive(Drop)]
+pub(crate) struct Asks {
+    all: Mutex<VecDeque<Ask>>,
+}
+
+impl Asks {
+    pub(crate) fn new(alloc: Global) -> Self {
+        Asks {
+            all: Mutex::new(VecDeque::new(alloc)),
+        }
+    }
+
+    /// One more asks.
+    pub(crate) fn put<R: Wait>(&self, rt: &R, ask: Ask) -> Result<(), AllocError> {
+        self.all.lock(rt).push_back(ask)?;
+        Ok(())
+    }
+
+    fn take<R: Wait>(&self, rt: &R) -> Option<Ask> {
+        self.all.lock(rt).pop_front()
+    }
+}
+
+/// The files of the log.
+fn view_of<'f, J: Naming, S: Storage + Drop, R: Runtime + Wait>(
+    hub: &Hub<'f, J, S, R>,
+) -> Result<FolderView<'f, R>, PageFault> {
+    match FolderView::beside(hub.rt, &hub.folder.path) {
+        Ok(view) => Ok(view),
+        // (that the folder can't be opened now)
+        Err(_) => Err(PageFault::Damaged { segment: 0, at: 0 }),
+    }
+}
+
+/// Where the messages stand that lie refused by a receiver. Nobody asks any more once the gateway ends.
 fn places<J: Naming, S: Storage + Drop, R: Runtime + Wait>(
     hub: &Hub<'_, J, S, R>,
     receiver: u32,
 ) -> Result<Vec<u64>, PageFault> {
-    let Ok(view) = FolderView::beside(hub.rt, &hub.folder.path) else {
-        return Err(UNOPENED);
-    };
+    let view = view_of(hub)?;
     let mut keeper = Keeper::new(hub.rt.alloc(), view);
     let next = hub.journal.lock(hub.rt).ledger.state().next();
     // (what a refusal wrote is on the disk before its forwarder goes on)
-    for _ in 0..u64::MAX {
+    for _ in hub.rt.forever() {
         let before = keeper.place();
-        if keeper.read_to(hub.tail(), next)? || keeper.place() == before {
+        if keeper.read_to(hub.tail(), next)? || keeper.place() == before || hub.has_ended() {
             break;
         }
     }
@@ -39,12 +87,12 @@ fn refused<J: Naming, S: Storage + Drop, R: Runtime + Wait>(
     receiver: u32,
 ) -> Result<Vec<Message<J>>, PageFault> {
     let alloc = hub.rt.alloc();
-    let Ok(view) = FolderView::beside(hub.rt, &hub.folder.path) else {
-        return Err(UNOPENED);
-    };
-    let mut pages = Pages::new(alloc, view);
+    let mut pages = Pages::new(alloc, view_of(hub)?);
     let mut messages = Vec::new(alloc);
     for place in &places(hub, receiver)? {
+        if hub.has_ended() {
+            break;
+        }
         let bytes = pages.find(hub.tail(), *place)?;
         let found = hub.journal.lock(hub.rt).ledger.message(*place, &bytes)?;
         if let Some(message) = found {
@@ -54,26 +102,18 @@ fn refused<J: Naming, S: Storage + Drop, R: Runtime + Wait>(
     Ok(messages)
 }
 
-/// Has all that a receiver refused be due to it once more, in the order in which it refused it.
-pub(crate) fn resend<J: Naming, S: Storage + Drop, R: Runtime + Wait>(
+/// Has messages be due to a receiver once more, and gives how many they are once that is on the disk.
+fn put_again<J: Naming, S: Storage + Drop, R: Runtime + Wait>(
     hub: &Hub<'_, J, S, R>,
     line: &Line,
+    messages: &[Message<J>],
 ) -> Result<String, AllocError> {
     let alloc = hub.rt.alloc();
-    let messages = match refused(hub, line.number) {
-        Ok(messages) => messages,
-        Err(PageFault::Memory) => return Err(AllocError),
-        Err(fault) => return format!(in alloc; "refused: {fault}\n"),
-    };
     let time = microseconds(hub.rt);
     let mut last = None;
-    for message in &messages {
-        let put = hub
-            .journal
-            .lock(hub.rt)
-            .ledger
-            .again(time, line.number, message);
-        match put {
+    for message in messages {
+        let mut office = hub.journal.lock(hub.rt);
+        match office.ledger.again(time, line.number, message) {
             Ok(ticket) => last = Some(ticket),
             Err(fault) => return format!(in alloc; "refused: {fault}\n"),
         }
@@ -81,8 +121,50 @@ pub(crate) fn resend<J: Naming, S: Storage + Drop, R: Runtime + Wait>(
     if let Some(ticket) = &last
         && hub.journal.settle(hub.rt, ticket).is_err()
     {
+        hub.fail(RunFault::Write);
         return format!(in alloc; "refused: the disk has failed\n");
     }
     line.ring(hub.rt);
     format!(in alloc; "resent {}\n", messages.len())
+}
+
+/// Has all that a receiver refused be due to it once more, in the order in which it refused it.
+fn resend<J: Naming, S: Storage + Drop, R: Runtime + Wait>(
+    hub: &Hub<'_, J, S, R>,
+    line: &Line,
+) -> Result<String, AllocError> {
+    let alloc = hub.rt.alloc();
+    let refused = refused(hub, line.number);
+    if hub.has_ended() {
+        return format!(in alloc; "refused: the gateway ends\n");
+    }
+    match refused {
+        Ok(messages) => put_again(hub, line, &messages),
+        Err(PageFault::Memory) => Err(AllocError),
+        Err(fault) => format!(in alloc; "refused: {fault}\n"),
+    }
+}
+
+/// Answers who asks.
+fn attend<J: Naming, S: Storage + Drop, R: Runtime + Wait>(
+    hub: &Hub<'_, J, S, R>,
+    ask: Ask,
+) -> io::Result<()> {
+    let Ask { line, stream } = ask;
+    let text = resend(hub, &line)?;
+    let mut writer = stream;
+    writer.write_all(text.as_bytes())
+}
+
+/// Answers one after another who asks, until the gateway ends.
+pub(crate) fn resend_all<J: Naming, S: Storage + Drop, R: Runtime + Wait>(hub: &Hub<'_, J, S, R>) {
+    for _ in hub.rt.forever() {
+        if hub.has_ended() {
+            return;
+        }
+        match hub.asks.take(hub.rt) {
+            Some(ask) => drop(attend(hub, ask)),
+            None => thread::sleep(hub.rt, Duration::from_millis(LOOK)),
+        }
+    }
 }

@@ -3,7 +3,6 @@ use crate::gateway::hub::Hub;
 use crate::gateway::lines::{Line, Stand};
 use crate::gateway::page::figures_of;
 use gw_journal::{Naming, Storage};
-use gw_page::Figures;
 use std::alloc::AllocError;
 use std::sync::{Arc, Wait};
 use std::time::Clock;
@@ -46,14 +45,8 @@ pub(crate) fn all_shown<J: Naming, S: Storage + Drop, R: Wait + Clock + AllocGlo
 
 /// A receiver's line, to be read.
 fn receiver_text<R: Clock + AllocGlobal>(rt: &R, shown: &Shown) -> Result<String, AllocError> {
-    let Shown {
-        line,
-        stand,
-        address,
-        left,
-        refused,
-    } = shown;
-    let (name, address) = (line.name.escape_ascii(), address.escape_ascii());
+    let (stand, left, refused) = (shown.stand, shown.left, shown.refused);
+    let (name, address) = (shown.line.name.escape_ascii(), shown.address.escape_ascii());
     let stands = match (stand.is_held, stand.is_connected) {
         (true, _) => "held",
         (false, true) => "connected",
@@ -67,14 +60,8 @@ fn receiver_text<R: Clock + AllocGlobal>(rt: &R, shown: &Shown) -> Result<String
 
 /// A receiver as JSON.
 fn receiver_json<R: Clock + AllocGlobal>(rt: &R, shown: &Shown) -> Result<String, AllocError> {
-    let Shown {
-        line,
-        stand,
-        left,
-        refused,
-        ..
-    } = shown;
-    let name = line.name.escape_ascii();
+    let (stand, left, refused) = (shown.stand, shown.left, shown.refused);
+    let name = shown.line.name.escape_ascii();
     let (is_held, is_connected) = (stand.is_held, stand.is_connected);
     let (stuck, taken) = (stand.stuck(rt), stand.aa);
     format!(in rt.alloc();
@@ -87,16 +74,10 @@ pub(crate) fn state<J: Naming, S: Storage + Drop, R: Wait + Clock + AllocGlobal>
     hub: &Hub<'_, J, S, R>,
     is_json: bool,
 ) -> Result<String, AllocError> {
-    let Figures {
-        plan,
-        open,
-        sessions,
-        accepted,
-        refused,
-        is_short,
-        ..
-    } = figures_of(hub)?;
     let alloc = hub.rt.alloc();
+    let of = figures_of(hub)?;
+    let (plan, open, sessions) = (of.plan, of.open, of.sessions);
+    let (accepted, refused, is_short) = (of.accepted, of.refused, of.is_short);
     let room = if is_short {
         "is short of room"
     } else {

@@ -84,11 +84,6 @@ impl Watch {
         let _kept = refusals.last.push_back(refusal);
     }
 
-    /// How many messages were refused.
-    pub(crate) fn refused<R: Wait>(&self, rt: &R) -> u64 {
-        sum_of(&self.refusals.lock(rt).counts)
-    }
-
     /// What was refused.
     pub(crate) fn seen<R: Wait>(&self, rt: &R, alloc: Global) -> Result<Seen, AllocError> {
         let mut last = Vec::with_capacity(alloc, LAST)?;

@@ -15,6 +15,10 @@ pub spawn-requires-then-is_ok-2-send-F : goal.spawn-requires-then-is_ok-2-send-F
 spawn-requires-then-is_ok-2-send-F g c κs within =
     sent-two _ _ _ _ (Hub-shared _ _ _ (param 0 g.row.J) (param 1 g.row.S) (param 2 g.row.R) g.J.Naming g.S.Storage c.requires.0 c.requires.2) (Pages-shared _ _)
 
+pub spawn-requires-then-is_ok-3-send-F : goal.spawn-requires-then-is_ok-3-send-F
+spawn-requires-then-is_ok-3-send-F g c κs within =
+    sent-one _ _ _ (Hub-shared _ _ _ (param 0 g.row.J) (param 1 g.row.S) (param 2 g.row.R) g.J.Naming g.S.Storage c.requires.0 c.requires.2)
+
 pub spawn-requires-2-send-F : goal.spawn-requires-2-send-F
 spawn-requires-2-send-F g c κs within =
     sent-two _ _ _ _ (Hub-shared _ _ _ (param 0 g.row.J) (param 1 g.row.S) (param 2 g.row.R) g.J.Naming g.S.Storage c.requires.0 c.requires.2)
