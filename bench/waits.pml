@@ -21,6 +21,9 @@
 #ifndef SECOND
 #define SECOND 1
 #endif
+#ifndef INSTALL
+#define INSTALL 1                   /* 0: no plan is installed, and both receivers are there from the start */
+#endif
 #ifndef MISSING
 #define MISSING 0
 #endif
@@ -226,6 +229,7 @@ ends:
 /* `swap` and `install`: gateway/plans.rt, take: Office::take_plan, settle, begin_lines (`wanted`, then each line) */
 proctype Words() {
     bool lost = false;
+    if :: !INSTALL -> goto ends :: else fi;
     atomic {
         if :: has_failed -> goto fails :: else fi;
         last[WORDS] = fresh;
@@ -253,6 +257,7 @@ proctype Stop() {
 init {
     atomic {
         is_line[0] = true; is_planned[0] = true;
+        if :: INSTALL :: else -> plan = 3; is_line[1] = true; is_planned[1] = true fi;
         run Session(0, FIRST); run Session(1, SECOND);
         run Forwarder(2, 0); run Forwarder(3, 1);
         run Words(); run Stop()
