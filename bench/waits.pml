@@ -2,7 +2,7 @@
  *
  *     spin -a bench/waits.pml && cc -O2 -DSAFETY -DCOLLAPSE -DMEMLIM=3000 -o pan pan.c && ./pan
  *
- * It takes a minute. With `-DFIRST=2 -DINSTALL=0` for spin, a session that sends twice, it takes six, and 2.9 GB.
+ * It takes one to two minutes. With `-DFIRST=2 -DINSTALL=0` for spin, a session that sends twice, it takes six, and 2.9 GB.
  * Without an error there is no deadlock and no lost wake-up. An "invalid end state" is a thread that waits for ever. The assertion of `Stop` fails where
  * nothing more happens and a message is left. What it has: two sessions, two receivers, an install that brings the second receiver and may take the first one out,
  * a stop and a failing disk at any time, the next file begun at any sync, connections that end at any time. With `-DMISSING=1` to 5 one wake-up is left out,
