@@ -1,8 +1,8 @@
 //! A durable relay by hand, beside which `bench/gateway --relay` measures the gateway: what is accepted is on the disk before it is answered, and is then sent on.
 //!
 //! It reads no message but for MSH-10, validates none and translates none. A sender's blocks are appended to one file, each behind its SHA-256, and the first who
-//! waits writes and syncs for all. Each receiver's thread reads the file on, sends a block, and waits until its acknowledgment is on the disk. A start doesn't read
-//! the file, and no crash is survived: it measures what the work costs.
+//! waits writes and syncs for all. Each receiver's thread reads the file on in pieces, holds each message against its digest, sends it, and waits until a record of
+//! its acknowledgment is on the disk. A start doesn't read the file: what was passed is written for one, and the relay measures what the work costs.
 //!
 //! `rustc -O bench/durable.rs`, then `durable FILE PORT..`: it prints the port that it listens at, and goes on until it is killed.
 use std::fs::{File, OpenOptions};
@@ -34,6 +34,9 @@ const PASSED: u8 = 2;
 /// The bytes of a record before its own: a gate, its kind, its length, its digest.
 const HEAD: usize = 38;
 
+/// How many bytes of the file are read at once.
+const PIECE: usize = 65_536;
+
 type Outcome<T> = Result<T, Box<dyn std::error::Error + Send + Sync>>;
 
 struct Tail {
@@ -43,12 +46,16 @@ struct Tail {
     /// up to where records were put, and up to where they are on the disk
     end: u64,
     synced: u64,
+    /// the same of messages: receivers' threads wait for them alone
+    due: u64,
+    shown: u64,
 }
 
 /// One file, whose records many threads put.
 struct Log {
     tail: Mutex<Tail>,
     news: Condvar,
+    bell: Condvar,
     path: String,
 }
 
@@ -72,10 +79,13 @@ impl Log {
             batch: vec![],
             end: 0,
             synced: 0,
+            due: 0,
+            shown: 0,
         };
         Ok(Log {
             tail: Mutex::new(tail),
             news: Condvar::new(),
+            bell: Condvar::new(),
             path: path.into(),
         })
     }
@@ -86,6 +96,9 @@ impl Log {
         let mut tail = self.tail.lock().unwrap();
         tail.batch.extend_from_slice(&record);
         tail.end += record.len() as u64;
+        if kind == ACCEPTED {
+            tail.due = tail.end;
+        }
         tail.end
     }
 
@@ -97,7 +110,8 @@ impl Log {
                 tail = self.news.wait(tail).unwrap();
                 continue;
             };
-            let (batch, from, upto) = (std::mem::take(&mut tail.batch), tail.synced, tail.end);
+            let batch = std::mem::take(&mut tail.batch);
+            let (from, upto, due) = (tail.synced, tail.end, tail.due);
             drop(tail);
             file.write_all_at(&batch, from).unwrap();
             assert_eq!(unsafe { fdatasync(file.as_raw_fd()) }, 0);
@@ -105,15 +119,20 @@ impl Log {
             tail.synced = upto;
             tail.file = Some(file);
             self.news.notify_all();
+            if tail.shown < due {
+                tail.shown = due;
+                self.bell.notify_all();
+            }
         }
     }
 
-    /// Waits until more than this is on the disk.
-    fn wait(&self, at: u64) {
+    /// Waits until messages behind this place are on the disk, and gives where they end.
+    fn wait(&self, at: u64) -> u64 {
         let mut tail = self.tail.lock().unwrap();
-        while tail.synced <= at {
-            tail = self.news.wait(tail).unwrap();
+        while tail.shown <= at {
+            tail = self.bell.wait(tail).unwrap();
         }
+        tail.shown
     }
 }
 
@@ -148,36 +167,64 @@ fn attend(log: &Log, mut line: TcpStream) -> Outcome<()> {
     }
 }
 
-/// Sends a receiver each message of the log, in order, once the one before is acknowledged.
-fn forward(log: &Log, receiver: u8, port: u16) -> Outcome<()> {
+/// What was read of a log's file, from a place on.
+struct Piece {
+    file: File,
+    bytes: Vec<u8>,
+    at: usize,
+}
+
+impl Piece {
+    /// The next bytes, which stand at this place of the file, where the file counts up to another.
+    fn next(&mut self, size: usize, place: u64, upto: u64) -> Outcome<&[u8]> {
+        if self.bytes.len() - self.at < size {
+            let more = size.max(PIECE).min((upto - place) as usize);
+            self.bytes.resize(more, 0);
+            self.file.read_exact_at(&mut self.bytes, place)?;
+            self.at = 0;
+        }
+        self.at += size;
+        Ok(&self.bytes[self.at - size..self.at])
+    }
+}
+
+/// Sends a receiver each message of the log from a place on, in order, once the one before is acknowledged.
+fn forward(log: &Log, receiver: u8, port: u16, at: &mut u64) -> Outcome<()> {
     let mut line = TcpStream::connect(("127.0.0.1", port))?;
     line.set_nodelay(true)?;
     let mut reader = BufReader::new(line.try_clone()?);
-    let file = File::open(&log.path)?;
-    let (mut at, mut head, mut answer) = (0u64, [0; HEAD], vec![]);
+    let (mut head, mut upto, mut answer) = ([0; HEAD], 0, vec![]);
+    let mut piece = Piece {
+        file: File::open(&log.path)?,
+        bytes: vec![],
+        at: 0,
+    };
     loop {
-        log.wait(at);
-        file.read_exact_at(&mut head, at)?;
-        let mut bytes = vec![0; u32::from_be_bytes(head[2..6].try_into()?) as usize];
-        file.read_exact_at(&mut bytes, at + HEAD as u64)?;
-        let place = at;
-        at += (HEAD + bytes.len()) as u64;
+        if upto <= *at {
+            upto = log.wait(*at);
+        }
+        head.copy_from_slice(piece.next(HEAD, *at, upto)?);
+        let size = u32::from_be_bytes(head[2..6].try_into()?) as usize;
+        let bytes = piece.next(size, *at + HEAD as u64, upto)?;
+        let after = *at + (HEAD + size) as u64;
         if head[1] != ACCEPTED {
+            *at = after;
             continue;
         }
-        if spelled(ACCEPTED, &bytes)[..HEAD] != head {
+        if spelled(ACCEPTED, bytes)[..HEAD] != head {
             return Err("another digest".into());
         }
-        line.write_all(&[&[VT][..], &bytes, &[FS, b'\r'][..]].concat())?;
+        line.write_all(&[&[VT][..], bytes, &[FS, b'\r'][..]].concat())?;
         answer.clear();
         reader.read_until(FS, &mut answer)?;
-        let stated = [b"\rMSA|AA|", control_of(&bytes)?].concat();
+        let stated = [b"\rMSA|AA|", control_of(bytes)?].concat();
         if !answer.windows(stated.len()).any(|it| it == stated) {
             return Err("not acknowledged".into());
         }
         let mut passed = vec![receiver];
-        passed.extend(place.to_be_bytes());
+        passed.extend(at.to_be_bytes());
         log.settle(log.put(PASSED, &passed));
+        *at = after;
     }
 }
 
@@ -186,8 +233,9 @@ fn main() -> Outcome<()> {
     let log = Arc::new(Log::new(&words[1])?);
     for (receiver, port) in words[2..].iter().enumerate() {
         let (log, port) = (log.clone(), port.parse()?);
-        thread::spawn(move || loop {
-            if let Err(error) = forward(&log, receiver as u8, port) {
+        thread::spawn(move || {
+            let mut at = 0;
+            while let Err(error) = forward(&log, receiver as u8, port, &mut at) {
                 eprintln!("receiver {receiver}: {error}");
                 thread::sleep(Duration::from_secs(1));
             }

@@ -1,116 +1,269 @@
 /* Who waits for whom in `hl7gate gateway`. No contract says that a thread gets on, so `spin` looks at each order of these threads' steps:
  *
- *     spin -a bench/waits.pml && cc -O2 -DSAFETY -o pan pan.c && ./pan
+ *     spin -a bench/waits.pml && cc -O2 -DSAFETY -DCOLLAPSE -DMEMLIM=3000 -o pan pan.c && ./pan
  *
- * Without an error there is no deadlock and no lost wake-up. An "invalid end state" is a thread that waits for ever. The assertion of `Stop` fails where a
- * message is left and all threads wait. Each part names the function that it stands for. What is done under a lock is one step, since no thread takes a lock
- * while it holds another. Waits have no time limits here: the program's forwarders also look by themselves each second.
+ * It takes one to two minutes. With `-DFIRST=2 -DINSTALL=0` for spin, a session that sends twice, it takes six, and 2.9 GB.
+ * Without an error there is no deadlock and no lost wake-up. An "invalid end state" is a thread that waits for ever. The assertion of `Stop` fails where
+ * nothing more happens and a message is left. What it has: two sessions, two receivers, an install that brings the second receiver and may take the first one out,
+ * a stop and a failing disk at any time, the next file begun at any sync, connections that end at any time. With `-DMISSING=1` to 5 one wake-up is left out,
+ * and `pan` has to find that.
+ *
+ * Each part names the function that it stands for. What is done under one lock is one step. One thread takes a lock while it holds another: `all_shown` holds
+ * the journal's and takes a line's, and nobody takes them the other way round.
+ *
+ * Time limits wake nobody here, but for a forwarder that sleeps when the gateway is stopped: `Hub::stop` rings no bell, and its half second ends. In the
+ * program that half second, the reads of sockets and the pauses wake threads more often. It leaves out what is looked at by time alone: `hold`, `go`, a
+ * disk without room, turns for long messages, the page. It also leaves out spurious wake-ups, lack of memory, records that nobody waits for (names, and the
+ * plan that a file begins with), and why a message is refused: of its plan (`Stale` or not) or of its content.
  */
-#define SESSIONS 2
-#define RECEIVERS 2
-#define MESSAGES 2
-#define WORDS (SESSIONS + RECEIVERS)
+#ifndef FIRST
+#define FIRST 1                     /* how many messages the first session has, and the second one */
+#endif
+#ifndef SECOND
+#define SECOND 1
+#endif
+#ifndef INSTALL
+#define INSTALL 1                   /* 0: no plan is installed, and both receivers are there from the start */
+#endif
+#ifndef AT_ONCE
+#define AT_ONCE 0                   /* 1: what a sync was given counts at its end; 0: at the end of the next one, or where the next file was begun */
+#endif
+#ifndef MISSING
+#define MISSING 0
+#endif
+#define WORDS 4                     /* threads: two sessions, two forwarders, the one for words */
+#define THREADS 5
 
-/* ---- under the journal's lock (gw_journal::Journal, gw_gateway::Office) */
-mtype = { none, fresh, taken };
-mtype record[WORDS + 1] = none;     /* each thread's last record: on the disk (or there is none); put; in the hands of the thread that syncs */
-bool here = true;                   /* the storage lies under the lock, and no thread syncs */
-bool version = 0;                   /* the plan in force */
-byte left[RECEIVERS];               /* what is left for each receiver */
-bool on_news[WORDS + 1];            /* who waits on the condition `news` */
+/* ---- under the journal's lock: gw_journal::Desk, gw_ledger::Ledger, gw_gateway::Office */
+mtype = { stored, fresh, young, old };
+mtype last[THREADS] = stored;       /* the record that each thread waits for: it counts; in the batch; given by this sync or the last one; counts with this sync */
+byte fresh_for[2], young_for[2], old_for[2];    /* messages that are due to each receiver, likewise */
+byte ready_for[2];                  /* those that count: its forwarder can read them */
+bool here = true;                   /* the storage lies under the lock: no thread syncs */
+bool has_failed = false;
+bool on_news[THREADS];              /* who sleeps on the journal's condition `news` */
+byte plan = 1;                      /* the receivers of the plan in force, a bit for each */
 
-#define IS_FRESH (record[0] == fresh || record[1] == fresh || record[2] == fresh || record[3] == fresh || record[4] == fresh)
+#define has(set, r) ((set >> r) & 1)
+#define left(r) (fresh_for[r] + young_for[r] + old_for[r] + ready_for[r])
 
-/* ---- a receiver's line (hl7gate gateway/lines.rt) */
-bool is_rung[RECEIVERS];
-bool has_ended[RECEIVERS];
-bool on_bell[RECEIVERS];            /* its forwarder waits on the condition `bell` */
+/* ---- hl7gate gateway/lines.rt, hub.rt */
+bool is_line[2];                    /* a receiver has a line */
+bool is_planned[2];
+bool is_rung[2];
+bool on_bell[2];                    /* its forwarder sleeps on the condition `bell` */
+bool has_ended = false;             /* Hub::stop, Hub::fail */
 
-bool has_stopped = false;           /* Hub::stop */
+byte gone;                          /* how many of sessions and words have ended */
+bool has_begun;                     /* where both sessions have as many messages they are alike, and the first goes first */
+hidden byte turns;
 
-inline take(i) { if :: record[i] == fresh -> record[i] = taken :: else fi }
-inline give_back(i) { if :: record[i] == taken -> record[i] = none :: else fi; on_news[i] = false }
+/* Desk::take, Ledger::take */
+inline take_one(i) { if :: last[i] == young -> last[i] = old :: last[i] == fresh -> last[i] = young :: else fi }
+inline take_for(r) { old_for[r] = young_for[r]; young_for[r] = fresh_for[r]; fresh_for[r] = 0 }
+inline take() { take_one(0); take_one(1); take_one(2); take_one(3); take_one(4); take_for(0); take_for(1); here = false }
 
-/* Journal::settle: waits until the thread's record is on the disk. The first who waits syncs, with the lock free */
+/* Desk::give_back: what was given before this sync counts; where the next file was begun (Job::turning), also what it was given */
+inline back_one(i) { if :: last[i] == old || (turns && last[i] == young) -> last[i] = stored :: else fi }
+inline back_for(r) {
+    ready_for[r] = ready_for[r] + old_for[r]; old_for[r] = 0;
+    if :: turns -> ready_for[r] = ready_for[r] + young_for[r]; young_for[r] = 0 :: else fi
+}
+inline give_back() { back_one(0); back_one(1); back_one(2); back_one(3); back_one(4); back_for(0); back_for(1); here = true }
+
+#if MISSING == 1
+inline notify_all() { skip }
+#elif MISSING == 2                  /* notify_one: the first that sleeps */
+inline notify_all() {
+    if
+    :: on_news[0] -> on_news[0] = false
+    :: !on_news[0] && on_news[1] -> on_news[1] = false
+    :: !on_news[0] && !on_news[1] && on_news[2] -> on_news[2] = false
+    :: !on_news[0] && !on_news[1] && !on_news[2] && on_news[3] -> on_news[3] = false
+    :: else -> on_news[4] = false
+    fi
+}
+#else
+inline notify_all() { on_news[0] = false; on_news[1] = false; on_news[2] = false; on_news[3] = false; on_news[4] = false }
+#endif
+#if MISSING == 3
+inline notify_failed() { skip }
+#else
+inline notify_failed() { notify_all() }
+#endif
+
+/* Journal::settle: waits until the thread's record counts (`lost`: it never will). Who finds the storage there takes it, and syncs with the lock free */
 inline settle(me) {
     do
-    :: atomic { record[me] == none -> break }
-    :: d_step { record[me] != none && here && IS_FRESH -> here = false; take(0); take(1); take(2); take(3); take(4) };
-        /* the sync: Desk::take, Job::run, Desk::give_back */
-        d_step { here = true; give_back(0); give_back(1); give_back(2); give_back(3); give_back(4) }
-    :: atomic { record[me] != none && !(here && IS_FRESH) -> on_news[me] = true };
-        !on_news[me]
-    od
-}
-
-/* Line::ring */
-inline ring(r) { d_step { is_rung[r] = true; on_bell[r] = false } }
-
-/* Line::end */
-inline end(r) { d_step { has_ended[r] = true; on_bell[r] = false } }
-
-/* AtLog::judge and AtLog::secure: a session whose sender waits for each answer */
-proctype Session(byte me) {
-    byte answered = 0, tries = 0;
-    bool under = 0;
-    do
-    :: atomic { answered < MESSAGES && !has_stopped -> under = version };
-        /* admit; another plan may come into force meanwhile */
-        do
-        :: d_step { tries < 4 && under == version -> record[me] = fresh; left[0]++; left[1]++; tries = 0 }; break
-        :: d_step { tries < 4 && under != version -> under = version; tries++ }
-        :: d_step { tries == 4 -> record[me] = fresh; tries = 0 }; break
-        od;
-        settle(me);
-        ring(0);
-        ring(1);
-        answered++
-    :: atomic { answered == MESSAGES || has_stopped -> break }
-    od
-}
-
-/* Pending::next and Pending::settle, driven by gw_forward::forward */
-proctype Forwarder(byte me; byte r) {
-    do
-    :: has_ended[r] -> break
-    /* what counts is read on, and sent: the receiver takes it, or its connection ends and it is sent again */
-    :: atomic { !has_ended[r] && left[r] > 0 -> skip };
+    :: atomic { !on_news[me] ->
         if
-        :: d_step { left[r]--; record[me] = fresh };
-            settle(me)
-        :: skip
-        fi
-    /* Line::wait */
-    :: atomic { !has_ended[r] && !(left[r] > 0) -> skip };
+        :: last[me] == stored -> break
+        :: last[me] != stored && has_failed -> lost = true; break
+        :: last[me] != stored && !has_failed && !here -> on_news[me] = true
+        :: last[me] != stored && !has_failed && here -> d_step { take() }; goto sync
+        fi }
+    od;
+    goto settled;
+sync: /* Job::run, with the lock free; then all up to the next `take` under one lock */
+    do
+    :: atomic {
+        if :: !AT_ONCE -> turns = false :: turns = true fi;
+        d_step { give_back(); turns = false; notify_all(); if :: last[me] != stored -> take() :: else fi };
+        if :: last[me] == stored -> break :: else fi }
+    :: atomic { has_failed = true; notify_failed(); lost = true; break }
+    od;
+settled:
+    skip
+}
+
+/* Hub::stop, Hub::fail: from here on nothing of lines matters, since all their waits end */
+inline forget(r) { fresh_for[r] = 0; young_for[r] = 0; old_for[r] = 0; ready_for[r] = 0; is_planned[r] = false; is_rung[r] = false; on_bell[r] = false }
+inline stop() { has_ended = true; forget(0); forget(1) }
+
+/* Line::ring, by Ringing::ring: a receiver that has no line yet isn't rung for */
+inline ring(r) {
+    d_step {
         if
-        :: d_step { is_rung[r] || has_ended[r] -> is_rung[r] = false }
-        :: atomic { !(is_rung[r] || has_ended[r]) -> on_bell[r] = true };
-            d_step { !on_bell[r] -> is_rung[r] = false }
+        :: is_line[r] && !has_ended ->
+            is_rung[r] = true;
+#if MISSING != 4
+            on_bell[r] = false
+#endif
+        :: else
         fi
-    od
+    }
 }
 
-/* `swap` and `install`: gateway/plans.rt, `take` */
-proctype Words() {
-    d_step { version = !version; record[WORDS] = fresh };
-    settle(WORDS)
+/* Line::wait. The bell rings, or the gateway has ended, so that its time limit counts */
+inline wait(r) {
+    atomic {
+        if
+        :: is_rung[r] -> is_rung[r] = false
+        :: !is_rung[r] -> on_bell[r] = !has_ended; !on_bell[r]; is_rung[r] = false
+        fi
+    }
 }
 
-/* Hub::stop, at any time; or once nothing more happens: then nothing may be left */
-proctype Stop() {
+/* AtLog::arrive: Office::accept under the plan in force, for its receivers; or AtLog::refuse: a record of no receiver */
+inline put_for(r) { if :: has(plan, r) && !has_ended -> fresh_for[r]++ :: else fi }
+inline judge() {
     if
-    :: skip
-    :: timeout -> assert(left[0] == 0 && left[1] == 0)
+    :: last[me] = fresh; due = due | plan; d_step { put_for(0); put_for(1) }
+    :: last[me] = fresh
+    fi
+}
+
+/* attend, answer_blocks over AtLog: what one read brings is judged, then secured (AtLog::secure), and the forwarders are woken (AtLog::wake) */
+proctype Session(byte me; byte most) {
+    byte n = 0, due = 0;
+    bool lost = false;
+    do
+    :: atomic { n < most && (me == 0 || has_begun || FIRST != SECOND) -> has_begun = true; n++; if :: has_failed -> goto fails :: else -> judge() fi };
+more:
+        if
+        :: atomic { n < most -> n++; if :: has_failed -> goto fails :: else -> judge() fi }; goto more
+        :: true
+        fi;
+        settle(me);
+        if :: lost -> goto fails :: else fi;
+#if MISSING != 5
+        if :: has(due, 0) -> ring(0) :: else fi;
+        if :: has(due, 1) -> ring(1) :: else fi;
+#endif
+        due = 0
+    :: n = 0; break
+    od;
+    goto ends;
+fails: /* no answer goes out any more */
+    atomic { lost = false; due = 0; n = 0; stop() };
+ends:
+    gone++
+}
+
+/* forward_all, Forwarder::run: connects, sends, and connects anew */
+proctype Forwarder(byte me; byte r) {
+    bool may = false, is_over = false, lost = false;
+    /* go_on: Lines::next_new */
+    is_line[r] || has_ended;
+again:
+    if
+    :: has_ended -> goto ends
+    :: atomic { !has_ended -> may = is_planned[r] }
     fi;
-    has_stopped = true;
-    end(0);
-    end(1)
+    /* Forwarder::address */
+    if
+    :: atomic { may || left(r) > 0 -> may = false; goto next }
+    :: atomic { !(may || left(r) > 0) -> may = false }
+    fi;
+    wait(r);
+    goto again;
+next: /* Pending::next, is_ready */
+    if
+    :: atomic { has_ended || is_over -> is_over = false; goto again }
+    :: atomic { !has_ended && !is_over && ready_for[r] > 0 -> ready_for[r]-- }; goto send
+    /* Here::stands: a receiver that the plan lacks is sent what is left, and then no more */
+    :: atomic { !has_ended && !is_over && left(r) == 0 -> skip }; is_over = !is_planned[r]
+    :: !has_ended && !is_over && left(r) > 0 && ready_for[r] == 0
+    fi;
+    /* Here::wait: the receiver may have ended its connection meanwhile */
+    wait(r);
+    if :: true :: is_over = true fi;
+    goto next;
+send: /* deliver; the connection ends, or Pending::pass, `passed` */
+    if
+    :: atomic { !has_ended -> ready_for[r]++; goto again }
+    :: has_ended -> goto ends
+    :: has_failed -> goto fails
+    :: atomic { !has_failed -> last[me] = fresh }
+    fi;
+    settle(me);
+    if :: lost -> goto fails :: else fi;
+    /* Pending::show */
+    if
+    :: left(r) > 0
+    :: atomic { left(r) == 0 -> skip }; is_over = !is_planned[r]
+    fi;
+    goto next;
+fails:
+    atomic { lost = false; stop() };
+ends:
+    skip
+}
+
+/* `swap` and `install`: gateway/plans.rt, take: Office::take_plan, settle, begin_lines (`wanted`, then each line) */
+proctype Words() {
+    bool lost = false;
+    if :: !INSTALL -> goto ends :: else fi;
+    atomic {
+        if :: has_failed -> goto fails :: else fi;
+        last[WORDS] = fresh;
+        if :: plan = 2 :: plan = 3 fi
+    };
+    settle(WORDS);
+    if :: lost -> goto fails :: else fi;
+    is_planned[0] = has(plan, 0) && !has_ended;
+    d_step { is_line[1] = true; is_planned[1] = !has_ended };
+    goto ends;
+fails:
+    atomic { lost = false; stop() };
+ends:
+    gone++
+}
+
+/* Hub::stop, at any time. Where all others have ended or sleep, nothing may be left */
+proctype Stop() {
+    atomic {
+        assert(has_failed || has_ended || gone < 3 || !on_bell[0] || is_line[1] && !on_bell[1] || left(0) + left(1) == 0);
+        d_step { stop() }
+    }
 }
 
 init {
     atomic {
-        run Session(0); run Session(1);
-        run Forwarder(SESSIONS, 0); run Forwarder(SESSIONS + 1, 1);
+        is_line[0] = true; is_planned[0] = true;
+        if :: INSTALL :: else -> plan = 3; is_line[1] = true; is_planned[1] = true fi;
+        run Session(0, FIRST); run Session(1, SECOND);
+        run Forwarder(2, 0); run Forwarder(3, 1);
         run Words(); run Stop()
     }
 }
