@@ -79,7 +79,7 @@ pub record LastCut (records : List (List ℕ)) (e : Entry) (entries : List Entry
   pub all : entries ≡ front ++ e ∷ []
   pub spells : Spells records front
 
-cut_one : (records these : List (List ℕ)) (e : Entry) (entries : List Entry) → these ≡ records ++ spelled e ∷ [] → Fits e → Spells these entries
+pub cut_one : (records these : List (List ℕ)) (e : Entry) (entries : List Entry) → these ≡ records ++ spelled e ∷ [] → Fits e → Spells these entries
     → LastCut records e entries
 cut_one records these e entries same fits spells =
     let whole = subst (λ rs. Spells rs entries) same spells in
@@ -96,7 +96,7 @@ pub next_from : (s : State) (log : List Event) → (fold after s log).next ≡ s
 next_from s [] = omega arith
 next_from s (e ∷ log) = let r = next_from (after s e) log in omega (arith, r)
 
-events_more : (entries : List Entry) (e : Entry) → events_of (entries ++ e ∷ []) ≡ events_of entries ++ e.event ∷ []
+pub events_more : (entries : List Entry) (e : Entry) → events_of (entries ++ e ∷ []) ≡ events_of entries ++ e.event ∷ []
 events_more entries e = map-append (λ (e : Entry). e.event) entries (e ∷ [])
 
 -- the place of the next record

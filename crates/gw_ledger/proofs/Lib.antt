@@ -2,4 +2,5 @@ pub mod Ledging
 pub mod Counting
 pub mod Desks
 pub mod Passing
+pub mod Remaining
 pub mod Routing

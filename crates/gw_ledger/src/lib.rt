@@ -4,6 +4,7 @@
 #![tactic(auto)]
 
 mod accepting;
+mod backlogs;
 mod books;
 mod checkpoints;
 mod events;
@@ -14,6 +15,7 @@ mod messages;
 mod scans;
 
 pub use accepting::Look;
+pub use backlogs::Backlog;
 pub use checkpoints::Checkpoints;
 pub use fault::{LedgerFault, ScanFault};
 pub use ledger::Ledger;
