@@ -212,7 +212,7 @@ fn begin<'f, 'a, J: Naming, S: Storage + Drop, R: Runtime + Wait>(
 fn run<
     'a,
     J: Naming + Send + Sync,
-    F: Found<ByPlans>,
+    F: Found<ByPlans> + Send + Sync,
     R: Runtime + Threads + Wait + Net<Stream = TcpStream, Listener = TcpListener>,
 >(
     rt: &R,
@@ -251,7 +251,7 @@ fn run<
 /// It does so for each log that the folder may have.
 pub(crate) fn gateway<
     'a,
-    F: Found<ByPlans>,
+    F: Found<ByPlans> + Send + Sync,
     R: Runtime + Threads + Wait + Net<Stream = TcpStream, Listener = TcpListener>,
 >(
     rt: &R,
