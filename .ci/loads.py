@@ -2,6 +2,7 @@
 Also receivers that change places, and long translations. `.ci/gateways` plays them.
 """
 import contextlib
+import random
 import re
 import socket
 import struct
@@ -9,8 +10,8 @@ import threading
 import time
 from concurrent.futures import ThreadPoolExecutor
 
-from gateway import REPORT, Receiver, numbered
-from loopback import ANSWERS, Differs, same
+from gateway import REPORT, Receiver, control, numbered
+from loopback import ANSWERS, Differs, Line, same
 from preload import library_in
 
 # (nobody listens at this address)
@@ -250,4 +251,86 @@ def no_thread(gateway, closed=3):
     gateway.answered(gateway.ask([REPORT]), [numbered(2 + closed)])
     for name, receiver in gateway.receivers.items():
         receiver.gets(name, [b"LAB0007"], gateway.until, repeats=closed + 1)
+    gateway.kill()
+
+
+def come_and_go(gateway, seconds=15, seed=1):
+    """Three receivers come and go, refuse, are held, and are taken out of the plan and put back, while senders send and the gateway ends again and again.
+    In the end each has what was answered AA for it, and nothing of another's, that of one sender in order.
+    What came twice was sent again by `resend`, or its connection or the gateway ended meanwhile."""
+    chance, names, is_over = random.Random(seed), ["ONE", "TWO", "THREE"], threading.Event()
+    events = dict(zip(names, ("A01", "A02", "A03")))
+    receivers = {it: Receiver(codes=[*chance.choices([b"AA", b"AE"], [99, 1], k=10_000), b"AA"]) for it in names}
+    gateway.receivers, addresses = receivers, {name: it.address for name, it in receivers.items()}
+    gateway.until += 2 * seconds
+    for path, those in ("plan", names), ("two", ["THREE", "ONE"]), ("one", ["TWO"]):
+        (gateway.room / path).write_text(routed({it: addresses[it] for it in those}, events))
+    accepted, repeats, down = {it: ([], []) for it in names}, dict.fromkeys(names, 0), set()
+
+    def send(at):
+        mine, sent = random.Random(seed + 1 + at), 0
+        while not is_over.is_set():
+            with contextlib.suppress(OSError), contextlib.closing(gateway.client().socket) as socket_:
+                line = Line(socket_, gateway.until)
+                while not is_over.is_set():
+                    to, sent = mine.choice(names), sent + 1
+                    its = b"%c%07d" % (65 + at, sent)
+                    answer = line.ask([message(its, events[to].encode())])[0]
+                    if answer is None:
+                        break
+                    if b"MSA|AA|%s\r" % its in answer:
+                        accepted[to][at].append(its)
+                    time.sleep(0.002)
+            time.sleep(0.01)
+
+    gateway.start()
+    senders = [threading.Thread(target=send, args=(it,), daemon=True) for it in range(2)]
+    for sender in senders:
+        sender.start()
+    ends = time.monotonic() + seconds
+    while time.monotonic() < ends:
+        time.sleep(chance.uniform(0.02, 0.3))
+        word, to = chance.choice(["install", "hold", "go", "go", "resend", "end", "down", "up", "up"]), chance.choice(names)
+        if word == "end":
+            gateway.kill() if chance.random() < 0.5 else gateway.stop()
+            gateway.start("--keep-plan")
+            repeats = {name: count + 1 for name, count in repeats.items()}
+        elif word == "down" and to not in down:
+            receivers[to].close()
+            repeats[to] += 1
+            down.add(to)
+        elif word == "up" and to in down:
+            receivers[to].open(receivers[to].port)
+            down.remove(to)
+        elif word == "install":
+            same("install", 0, gateway.tell("install", chance.choice(["plan", "two", "one"]))[0])
+        elif word in ("hold", "go", "resend"):
+            # (a receiver that the plan lacks may be unknown since the start)
+            status, said = gateway.tell(word, to)
+            same(f"{word} {to}", True, status == 0 or said == "refused: no receiver of the plan has this name\n")
+            if said.startswith("resent "):
+                repeats[to] += int(said.split()[1])
+    is_over.set()
+    for sender in senders:
+        sender.join(10)
+    for to in down:
+        receivers[to].open(receivers[to].port)
+    same("install in the end", 0, gateway.tell("install", "plan")[0])
+    for to in names:
+        same("go in the end", 0, gateway.tell("go", to)[0])
+        gateway.ask([message(b"LAST", events[to].encode())])
+    for name, receiver in receivers.items():
+        with receiver.news:
+            receiver.news.wait_for(lambda: receiver.blocks and control(receiver.blocks[-1]) == b"LAST", max(0, gateway.until - time.monotonic()))
+        came = [control(it) for it in receiver.blocks]
+        once = list(dict.fromkeys(came))
+        same(f"the last message of {name}", [b"LAST"], once[-1:])
+        others = {it for other in names if other != name for its in accepted[other] for it in its}
+        same(f"what {name} got of others", set(), others & set(once))
+        for those in accepted[name]:
+            its = set(those)
+            same(f"what {name} lacks, or has out of order", those, [it for it in once if it in its])
+        if len(came) - len(once) > repeats[name]:
+            raise Differs(f"{name} got {len(came) - len(once)} messages twice, where {repeats[name]} may come again")
+        same(f"whether {name} got any", True, len(once) > 1)
     gateway.kill()

@@ -57,6 +57,17 @@ def repeated(gateway):
     gateway.kill()
 
 
+def left_again(gateway):
+    """A start where something is left for a receiver, and behind it a refused message is due to another once more, all under the one plan of the log."""
+    gateway.play(WARDS=Receiver(), ARCHIVE=Receiver())
+    lay(gateway, chain([[*begun(gateway), report(1, [1]), report(2, [2]), passed(NOW, 2, 5, refused(1, b"")), again(NOW, 2, 5)]]))
+    gateway.start()
+    for name in "WARDS", "ARCHIVE":
+        gateway.wait(f"receiver {name}: 1 messages wait in folder")
+        gateway.receivers[name].has(LEFT[name][:1], gateway.until)
+    gateway.kill()
+
+
 def plan_differs(gateway):
     """Where PLAN isn't the plan in force by the log, a start takes neither in silence: an option says which."""
     gateway.play(WARDS=Receiver(), ARCHIVE=Receiver())

@@ -179,16 +179,16 @@ impl<V: Calls + Drop> Pages<V> {
             self.seek(tail, place)?;
         }
         for _ in 0..u64::MAX {
-            match self.next(tail)? {
-                Some(page) if page.place == place => return Ok(page.bytes),
-                Some(page) => {
-                    if let Ok(entry) = read(self.alloc, &page.bytes)
-                        && let Event::Planned { .. } = entry.event
-                    {
-                        self.plan = Some(page.place);
-                    }
-                }
-                None => break,
+            let Some(page) = self.next(tail)? else {
+                break;
+            };
+            if let Ok(entry) = read(self.alloc, &page.bytes)
+                && let Event::Planned { .. } = entry.event
+            {
+                self.plan = Some(page.place);
+            }
+            if page.place == place {
+                return Ok(page.bytes);
             }
         }
         self.damaged()

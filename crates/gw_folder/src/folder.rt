@@ -7,7 +7,6 @@ use std::alloc::Global;
 use std::fs::File;
 use std::io;
 use std::io::ErrorKind;
-use std::os::unix::fs::FileExt;
 use std::rt::Files;
 
 /// A folder of the operating system, whose files are a log's. One process at a time has it.
@@ -55,14 +54,7 @@ impl<R: Files<File = File> + AllocGlobal> RealFolder<'_, R> {
         if self.shelf.make(number)? {
             self.has_unsynced_names = true;
         }
-        match self.shelf.file(number)? {
-            // (bytes of zero would stand between)
-            Some(file) if (file.metadata()?.len() as usize) < at => {
-                Err(io::Error::from(ErrorKind::InvalidInput))
-            }
-            Some(file) => file.write_all_at(bytes, at as u64),
-            None => Err(io::Error::from(ErrorKind::NotFound)),
-        }
+        self.shelf.write(number, at, bytes)
     }
 
     // Writes all, into the room that is kept free where there is no other.
@@ -78,10 +70,7 @@ impl<R: Files<File = File> + AllocGlobal> RealFolder<'_, R> {
     }
 
     fn cut_to(&mut self, number: u64, len: usize) -> io::Result<()> {
-        match self.shelf.file(number)? {
-            Some(file) if len < file.metadata()?.len() as usize => file.set_len(len as u64),
-            _ => Ok(()),
-        }
+        self.shelf.cut(number, len)
     }
 
     fn sync_file(&mut self, number: u64) -> io::Result<()> {

@@ -30,6 +30,7 @@ struct Here<'a, 'f, J: Naming, S: Storage + Drop, R: Wait> {
     line: &'a Line,
     stream: Cell<Option<Arc<TcpStream>>>,
     is_over: Cell<bool>,
+    waited: Cell<bool>,
 }
 
 impl<J: Naming, S: Storage + Drop, R: Wait + Clock + Eprint> Forwarded for Here<'_, '_, J, S, R> {
@@ -44,6 +45,7 @@ impl<J: Naming, S: Storage + Drop, R: Wait + Clock + Eprint> Forwarded for Here<
     // (the receiver may end its connection meanwhile)
     fn wait(&self) {
         self.line.wait(self.hub.rt);
+        self.waited.set(true);
         let stream = self.stream.replace(None);
         if let Some(stream) = &stream
             && is_ended(stream)
@@ -152,6 +154,7 @@ impl<
                 line,
                 stream,
                 sent,
+                waited: &self.here.waited,
                 is_new: true,
             });
             let ended = forward(rt.alloc(), outbox, &mut reader, &mut writer);
@@ -222,6 +225,7 @@ impl<
         let stream = Arc::new(hub.rt.alloc(), stream)?;
         self.here.stream.set(Some(stream.clone()?));
         self.here.is_over.set(false);
+        self.here.waited.set(true);
         line.set_connected(hub.rt, true);
         let after = self.send_over(outbox, &stream);
         line.set_connected(hub.rt, false);
@@ -306,6 +310,7 @@ fn forward_by<
         line,
         stream: Cell::new(None),
         is_over: Cell::new(false),
+        waited: Cell::new(true),
     };
     let times = Utc::new(hub.rt, hub.start);
     let mut outbox = Pending::new(

@@ -62,13 +62,15 @@ pub(crate) struct Records<'a, 'f, J: Naming, S: Storage + Drop, R: Wait> {
     pub(crate) line: &'a Line,
     pub(crate) stream: &'a TcpStream,
     pub(crate) sent: &'a Cell<bool>,
+    /// Whether its forwarder has waited since the connection was looked at.
+    pub(crate) waited: &'a Cell<bool>,
     /// No message was written yet.
     pub(crate) is_new: bool,
 }
 
 impl<J: Naming, S: Storage + Drop, R: Wait> Write for Records<'_, '_, J, S, R> {
     fn write(&mut self, buf: &[u8]) -> io::Result<usize> {
-        if !self.sent.get() && is_ended(self.stream) {
+        if !self.sent.get() && self.waited.replace(false) && is_ended(self.stream) {
             return Err(Error::from(ErrorKind::BrokenPipe));
         }
         if self.is_new || !self.sent.get() {
