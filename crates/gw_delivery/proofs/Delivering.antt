@@ -6,7 +6,7 @@ use Rattle.gw_ack.specs.declared.receipt.Ack.{Ack}
 use Rattle.gw_mllp.specs.Stream.{block}
 use Rattle.gw_forward.specs.declared.outbox.Outbox as outbox
 use Rattle.gw_forward.specs.declared.forwarding.Ended.{Ended}
-use Rattle.gw_forward.specs.Forwards.{Exchanged, Finishes, Forwards, Sends, none_left, none_sent, sent_last, sent_one}
+use Rattle.gw_forward.specs.Forwards.{Finishes, Forwards, Sends, none_left, none_sent, sent_last, sent_one}
 use Rattle.gw_delivery.specs.Delivering.{Delivers, EndsWith, HasDelivered, IsDue, all_passed, none_yet, one_again, one_more}
 use Rattle.gw_delivery.specs.Waiting.{Gives, IsPassed, NextState, Passes, Settles, Stays, WaitingState, how}
 

@@ -1,7 +1,6 @@
 -- What was read of the log, and stands there.
-use Rattle.std.proofs.Common.{◌≡◌, ℕ, zero, suc, ◌+◌, ◌≤◌, Bool, true, false, List, [], ◌∷◌, ◌++◌, length, take, Some, slice_get, refl, ap, sym, ◌∙◌, subst, arith, append_assoc}
+use Rattle.std.proofs.Common.{◌≡◌, ℕ, zero, suc, ◌+◌, ◌≤◌, false, List, [], ◌∷◌, ◌++◌, length, take, Some, slice_get, refl, ap, sym, ◌∙◌, subst, arith}
 use Rattle.std.specs.Prelude.{Result, Ok, Err, IfOk}
-use Rattle.std.specs.List.{fold}
 use Rattle.std.proofs.lemmas.List.{map-append}
 use Rattle.std.proofs.lemmas.List.Sums.{fold-append}
 use mathlib.Core.List.{IsPrefix}
@@ -16,7 +15,7 @@ use Rattle.gw_journal.proofs.Logging.{log_later, log_read}
 use Rattle.gw_ledger.specs.Ledgers.{Spells, events_of}
 use Rattle.gw_ledger.specs.Finding.{InJournal}
 use Rattle.gw_ledger.proofs.Ledging.{faithful_part, front_spelled}
-use Rattle.gw_ledger.proofs.Passing.{Cut, get_front}
+use Rattle.gw_ledger.proofs.Passing.{get_front}
 use Rattle.gw_delivery.specs.Seen.{IsEventAt, IsSight, IsUnder, IsUnderIn, SightState, UnderState, puts_plan}
 
 -- ---- later

@@ -1,5 +1,5 @@
 //! What a receiver is sent of a message.
-ghost use Rattle.std.specs.Prelude.{◌≡◌, IfOk, IfSome, map};
+ghost use Rattle.std.specs.Prelude.{IfOk, IfSome, map};
 ghost use Rattle.std.specs.Arc.{arc_value};
 ghost use Rattle.gw_er7.specs.Reading.{Reads};
 ghost use Rattle.gw_plan.specs.Admitted.{IsAdmitted, IsOf};

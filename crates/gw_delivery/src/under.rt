@@ -1,5 +1,5 @@
 //! The plan in force at a place of the log.
-ghost use Rattle.std.specs.Prelude.{◌≡◌, IsFalse};
+ghost use Rattle.std.specs.Prelude.{IsFalse};
 ghost use Rattle.gw_due.specs.Events as events;
 ghost use Rattle.gw_due.specs.Views as view;
 ghost use Rattle.gw_ledger.specs.Finding.{InJournal};

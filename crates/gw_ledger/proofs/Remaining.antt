@@ -1,5 +1,5 @@
 -- What is left for a receiver, by a state and as it goes on.
-use Rattle.std.proofs.Common.{◌≡◌, ◌⊎◌, inl, inr, ℕ, ◌+◌, ◌-◌, ◌≤◌, ◌<◌, Bool, true, false, nat_eq, cond, List, [], ◌∷◌, ◌++◌, length, take, drop, Option, Some, None, slice_get, refl, ap, sym, ◌∙◌, subst, arith, rules, append_assoc, length-append}
+use Rattle.std.proofs.Common.{◌≡◌, ℕ, ◌+◌, ◌-◌, ◌≤◌, ◌<◌, Bool, true, false, nat_eq, cond, List, [], ◌∷◌, ◌++◌, length, take, drop, Option, Some, None, slice_get, refl, ap, sym, ◌∙◌, subst, arith, rules, append_assoc, length-append}
 use Rattle.std.specs.Prelude.{◌&&◌, ◌||◌, nat_le, IfSome}
 use Rattle.std.specs.List.{AllByRecursion}
 use Rattle.std.proofs.lemmas.Bool.{and_parts, eqb-true, leb-true}
@@ -8,7 +8,7 @@ use mathlib.Core.List.{IsPrefix}
 use Rattle.gw_due.specs.Events.{Event, How, Passed}
 use Rattle.gw_due.specs.Due.{Name, due, due_from, left, names, passed, passed_by}
 use Rattle.gw_due.specs.Lawful.{Lawful, is_named}
-use Rattle.gw_due.specs.Says.{Says, SaysOf}
+use Rattle.gw_due.specs.Says.{SaysOf}
 use Rattle.gw_due.specs.State.{Receiver, State, is_known, state_of}
 use Rattle.gw_due.specs.Spelling.{Entry, Fits, spelled}
 use Rattle.gw_due.proofs.Growing.{due_append, drop_front, ordered, passed_append}

@@ -1,5 +1,5 @@
 //! What is left for a receiver, and that what was found in the log's files is the first of it.
-ghost use Rattle.std.specs.Prelude.{◌≡◌, ◌∷◌, [], IfOk, IfSome, IsErrOf, IsNone, IsSome, OnOk, OnErr};
+ghost use Rattle.std.specs.Prelude.{◌≡◌, ◌∷◌, [], IfOk, IfSome, IsErrOf, IsNone, IsSome, OnOk};
 ghost use Rattle.gw_due.specs.Spelling as spelling;
 ghost use Rattle.gw_due.specs.Views as view;
 ghost use Rattle.gw_journal.specs.Logs.{IsAt, log_in};

@@ -1,5 +1,5 @@
 -- How a log goes on to its next file.
-use Rattle.std.proofs.Common.{◌≡◌, ◌≢◌, ◌⊎◌, inl, inr, false, ℕ, ◌+◌, ◌<◌, ◌≤◌, ◌^◌, List, [], ◌∷◌, ◌++◌, length, refl, sym, ◌∙◌, ap, subst, arith, append_assoc, length-append}
+use Rattle.std.proofs.Common.{◌≡◌, ◌≢◌, ◌⊎◌, inl, inr, ℕ, ◌+◌, ◌<◌, ◌≤◌, ◌^◌, List, [], ◌∷◌, ◌++◌, length, refl, sym, ◌∙◌, ap, subst, arith, append_assoc, length-append}
 use Rattle.std.proofs.lemmas.List.{append-nil}
 use Rattle.sha2.specs.Sha256.{sha256}
 use Rattle.sha2.proofs.Facts256.{length-sha256}
@@ -248,10 +248,6 @@ turns_none number these next before c has empty same = record {
 pub end_batch : (bytes : List ℕ) (end : List (List ℕ)) → bytes ≡ batch 0 end → end ≡ [] ∷ [] → bytes ≡ batch 0 ([] ∷ [])
 end_batch bytes end is one = is ∙ ap (batch 0) one
 
-pub stands_next : {D : Type 0} (seen : D → Files) (may_leave : D → Files → Type 0) (s : SegmentState D) (next : List (List ℕ)) → s.broken ≡ false
-    → IsStaged seen may_leave 2 s.disk s.number s.end s.reach [] next → Stands seen may_leave s next
-stands_next seen may_leave s next unbroken st = record { unbroken = unbroken; these = []; last = next; all = refl; staged = st }
-
 -- ---- the next head
 
 -- the batch that is spelled is its head
@@ -274,10 +270,6 @@ pub nothing_next : {D : Type 0} (seen : D → Files) (may_leave : D → Files �
     → Holds seen may_leave s from head records → seen s.segment.disk (s.segment.number + 1) ≡ []
 nothing_next seen may_leave s from head records h = h.none_above (s.segment.number + 1) (omega (arith, h.number))
 
-pub holds_as : {D : Type 0} (seen : D → Files) (may_leave : D → Files → Type 0) (s v : LogState D) (from : Origin) (head : Head) (records : List (List ℕ)) → v ≡ s
-    → Holds seen may_leave s from head records → Holds seen may_leave v from head records
-holds_as seen may_leave s v from head records is h = subst (λ t. Holds seen may_leave t from head records) (sym is) h
-
 module _ {D : Type 0} (seen : D → Files) (may_leave : D → Files → Type 0) (moment : D → ℕ) (left_since : D → ℕ → Files → Type 0) (old new : LogState D) (checkpoint : List ℕ)
     (n m : ℕ) (is : n ≡ m) where
   pub going_as : LeavesGoing seen may_leave moment left_since old new (next_head old n checkpoint)
@@ -287,10 +279,6 @@ module _ {D : Type 0} (seen : D → Files) (may_leave : D → Files → Type 0) 
   pub goes_as : (from : Origin) (all : List (List ℕ)) → Holds seen may_leave new from (next_head old n checkpoint) all
       → Holds seen may_leave new from (next_head old m checkpoint) all
   goes_as from all h = subst (λ k. Holds seen may_leave new from (next_head old k checkpoint) all) is h
-
-pub leaves_as : {D : Type 0} (moment : D → ℕ) (left_since : D → ℕ → Files → Type 0) (old : D) (s v : LogState D) (P : Files → Type 0) → v ≡ s
-    → LeavesOnly moment left_since old s.segment.disk P → LeavesOnly moment left_since old v.segment.disk P
-leaves_as moment left_since old s v P is run = subst (λ t. LeavesOnly moment left_since old t.segment.disk P) (sym is) run
 
 pub leaves_at : {D : Type 0} (moment : D → ℕ) (left_since : D → ℕ → Files → Type 0) (old now new : D) (P : Files → Type 0) → new ≡ now
     → LeavesOnly moment left_since old now P → LeavesOnly moment left_since old new P

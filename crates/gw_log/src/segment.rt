@@ -93,7 +93,7 @@ fn open_file<D: Disk>(
 }
 
 impl<D: Disk> Segment<D> {
-    ghost use Rattle.std.specs.Prelude.{◌≡◌, ◌≢◌, ◌⊎◌, ◌+◌, ◌<◌, ◌≤◌, ◌^◌, ◌∷◌, [], true, false, ℕ, length};
+    ghost use Rattle.std.specs.Prelude.{◌≡◌, ◌≢◌, ◌⊎◌, ◌+◌, ◌<◌, ◌≤◌, ◌^◌, ◌∷◌, [], true, false, ℕ};
     ghost use Rattle.std.specs.Prelude.{IfOk, IfErr, IsErrOf, OnOk, OnErr};
     ghost use Rattle.gw_log.specs.Disk.{Changes, LeavesOnly, Only};
     ghost use Rattle.gw_log.specs.File.{Has, AreInLimit, KeepsRecords, IsDamagedAt};

@@ -1,7 +1,7 @@
 //! Steps on the disk: a batch is added, a gate is opened, the end of a file is repaired.
 //!
 //! A record counts behind an open gate (1), and in a whole batch: one with a gate of 2 behind it. That gate is the next batch's own.
-ghost use Rattle.std.specs.Prelude.{◌≡◌, ◌≢◌, ◌<◌, ◌≤◌, ◌^◌, [], ℕ, length, take, OnOk, IsErrOf};
+ghost use Rattle.std.specs.Prelude.{◌≡◌, ◌≢◌, ◌<◌, ◌≤◌, ◌^◌, [], ℕ, take, OnOk, IsErrOf};
 ghost use Rattle.gw_log.specs.Disk.{Files, Changes, IsWritten, Torn, Cut, IsGone, After, Follows, Only, LeavesOnly, LeavesOf};
 ghost use Rattle.gw_log.specs.own.Steps.{OpensGate, LeavesOpening, AddsBatch, LeavesAdding, BeginsFile, LeavesBeginning, Repairs, LeavesRepairing};
 

@@ -1,15 +1,14 @@
 -- Which records a state is of.
 use lib.Pointwise.{pointwise}
-use Rattle.std.proofs.Common.{◌≡◌, ◌⊎◌, inl, inr, ℕ, zero, suc, ◌<◌, Bool, true, false, cond, List, [], ◌∷◌, ◌++◌, length, map, replicate, Option, None, Some, refl, ap, sym, ◌∙◌, subst, arith}
-use Rattle.std.specs.Prelude.{⊤, IfSome, nat_eq, ◌&&◌}
+use Rattle.std.proofs.Common.{◌≡◌, ℕ, zero, suc, Bool, true, false, cond, List, [], ◌∷◌, map, replicate, Option, None, Some, refl, ap, sym, ◌∙◌, subst}
+use Rattle.std.specs.Prelude.{⊤, nat_eq}
 use Rattle.std.specs.Bool.{Decides}
 use Rattle.std.specs.List.{AllByRecursion}
-use Rattle.std.specs.Str.{bytes_eq}
-use Rattle.std.proofs.lemmas.Bool.Decides.{Decides-and, Decides-eqb, Decides-like, not_from_Decides}
+use Rattle.std.proofs.lemmas.Bool.Decides.{Decides-and, Decides-eqb, Decides-like}
 use Rattle.std.proofs.lemmas.List.{length-map, length-replicate}
 use Rattle.std.proofs.lemmas.Slice.Eq.{bytes_eq-Decides, slice_eq-Decides}
 use Rattle.gw_due.specs.Due.{Name}
-use Rattle.gw_due.specs.Lawful.{Lawful, no_event}
+use Rattle.gw_due.specs.Lawful.{Lawful}
 use Rattle.gw_due.specs.Spelling.{Entry, Fits, spelled}
 use Rattle.gw_due.specs.State.{Receiver, State, nothing, state_of}
 use Rattle.gw_due.proofs.Stating.{stands}
@@ -31,9 +30,9 @@ decides_receiver r q =
     Decides-like (one_receiver r q)
     (λ e i. record { number = e.0 i; name = e.1.0 i; address = e.1.1.0 i; from = e.1.1.1.0 i; left = e.1.1.1.1.0 i; refused = e.1.1.1.1.1 i })
     (λ (e : r ≡ q). (
-        ap (λ (r : Receiver). r.number) e,
-        (ap (λ (r : Receiver). r.name) e, (ap (λ (r : Receiver). r.address) e, (ap (λ (r : Receiver). r.from) e, (ap (λ (r : Receiver). r.left) e, ap (λ (r : Receiver). r.refused) e)))),
-      ))
+      ap (λ (r : Receiver). r.number) e,
+      (ap (λ (r : Receiver). r.name) e, (ap (λ (r : Receiver). r.address) e, (ap (λ (r : Receiver). r.from) e, (ap (λ (r : Receiver). r.left) e, ap (λ (r : Receiver). r.refused) e)))),
+    ))
     (Decides-and _ _ (Decides-eqb r.number q.number) (Decides-and _ _ (bytes_eq-Decides r.name q.name) (Decides-and _ _ (bytes_eq-Decides r.address q.address)
     (Decides-and _ _ (Decides-eqb r.from q.from) (Decides-and _ _ (Decides-eqb r.left q.left) (Decides-eqb r.refused q.refused))))))
 
@@ -42,9 +41,9 @@ decides_state s t =
     Decides-like (one_state s t)
     (λ e i. record { next = e.0 i; plan = e.1.0 i; last = e.1.1.0 i; margin = e.1.1.1.0 i; oldest = e.1.1.1.1.0 i; receivers = e.1.1.1.1.1 i })
     (λ (e : s ≡ t). (
-        ap (λ (s : State). s.next) e,
-        (ap (λ (s : State). s.plan) e, (ap (λ (s : State). s.last) e, (ap (λ (s : State). s.margin) e, (ap (λ (s : State). s.oldest) e, ap (λ (s : State). s.receivers) e)))),
-      ))
+      ap (λ (s : State). s.next) e,
+      (ap (λ (s : State). s.plan) e, (ap (λ (s : State). s.last) e, (ap (λ (s : State). s.margin) e, (ap (λ (s : State). s.oldest) e, ap (λ (s : State). s.receivers) e)))),
+    ))
     (Decides-and _ _ (Decides-eqb s.next t.next) (Decides-and _ _ (decides_option s.plan t.plan) (Decides-and _ _ (decides_option s.last t.last)
     (Decides-and _ _ (Decides-eqb s.margin t.margin) (Decides-and _ _ (Decides-eqb s.oldest t.oldest)
     (slice_eq-Decides decides_receiver s.receivers t.receivers (pointwise one_receiver s.receivers t.receivers) refl))))))

@@ -1,15 +1,15 @@
 -- The log of a gateway isn't refused.
-use Rattle.std.proofs.Common.{◌≡◌, ◌⊎◌, inl, inr, true, ℕ, suc, ◌+◌, ◌<◌, ◌≤◌, List, [], ◌∷◌, ◌++◌, length, map, take, drop, get_or, Option, Some, None, refl, ap, sym, ◌∙◌, subst, append_assoc, arith}
+use Rattle.std.proofs.Common.{◌≡◌, true, ℕ, suc, ◌<◌, List, [], ◌∷◌, ◌++◌, length, map, take, drop, get_or, Option, Some, None, refl, ap, sym, ◌∙◌, subst, append_assoc, arith}
 use Rattle.std.proofs.Math.Seq.{split_at, take-append_seam, drop-append_seam}
 use Rattle.std.specs.Prelude.{IfSome}
-use Rattle.std.specs.List.{AllByRecursion, fold}
+use Rattle.std.specs.List.{AllByRecursion}
 use Rattle.std.proofs.lemmas.List.{append_cancel_left, get_or-map, length-append, length-map, map-append, take-map}
 use Rattle.std.proofs.lemmas.List.Sums.{fold-append}
 use Rattle.gw_due.specs.Due.{Name, last, last_by, margin, margin_by}
 use Rattle.gw_due.specs.Events.{Event, Planned, Accepted, Again, Passed, Named, Margin, Retired}
 use Rattle.gw_due.specs.Lawful.{Lawful, no_event, one_more, MayFollow}
 use Rattle.gw_due.specs.Spelling.{Entry, Fits, spelled}
-use Rattle.gw_due.specs.Starting.{Refuses, Starts, StopsAt}
+use Rattle.gw_due.specs.Starting.{StopsAt}
 use Rattle.gw_due.specs.State.{State, allows, state_of}
 use Rattle.gw_due.proofs.Deciding.{decides}
 use Rattle.gw_due.proofs.Stating.{stands}
@@ -21,7 +21,7 @@ use Rattle.gw_log.specs.declared.fault.LogFault.{LogFault}
 use Rattle.gw_log.specs.declared.fault.LogFault.TheVariants.{Memory as LogMemory, Device, Full as LogFull, TooLong, Empty, Taken, Missing, Damaged}
 use Rattle.gw_log.proofs.Logs.{before_le}
 use Rattle.gw_log.proofs.Placing.{some_there}
-use Rattle.gw_ledger.specs.Ledgers.{Spells, Tells, events_of}
+use Rattle.gw_ledger.specs.Ledgers.{Tells, events_of}
 use Rattle.gw_ledger.proofs.Ledging.{front_spelled, lawful_part}
 use Rattle.gw_opening.specs.Begun.{IsSound}
 use Rattle.gw_opening.specs.Folders.{HasNoFile, IsGatewayLog}
@@ -104,7 +104,7 @@ module _ (Routes : (names : List Name) (plan to bytes : List ℕ) → Type 0) wh
       let may = may_follow (events_of upto) here.event (events_of upto ++ here.event ∷ []) part refl in
       let allowed = ((decides Routes (events_of upto) here.event may.0).0 may.1).0 in
       let row : get_or rows at [] ≡ spelled here = ap (λ l. get_or l at []) rows_are
-          ∙ get_or-map spelled back at (record { time = 0; event = Margin 0 }) [] (omega (arith, within, count)) in
+      ∙ get_or-map spelled back at (record { time = 0; event = Margin 0 }) [] (omega (arith, within, count)) in
       stops.there here fits.1.0 row (subst (λ s. allows s here.event ≡ true) (sym state_is) allowed)
 
   -- ---- no fault speaks against such a log

@@ -1,5 +1,5 @@
 -- What was opened, by what the folder had.
-use Rattle.std.proofs.Common.{◌≡◌, ◌⊎◌, inl, inr, ℕ, List, [], map, Option, None, Some, refl, ap, sym, ◌∙◌, subst}
+use Rattle.std.proofs.Common.{◌≡◌, inl, inr, ℕ, List, [], map, Option, None, Some, ap, sym, ◌∙◌, subst}
 use Rattle.std.specs.Prelude.{◌<◌, IfNone, IfSome}
 use Rattle.std.specs.List.{AllByRecursion}
 use Rattle.gw_due.specs.Due.{Name}

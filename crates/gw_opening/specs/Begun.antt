@@ -1,5 +1,5 @@
 -- A log that is open, and the state of all that stands in it.
-use Rattle.std.specs.Prelude.{◌≡◌, ◌<◌, ⊤, ℕ, List, IfSome}
+use Rattle.std.specs.Prelude.{◌<◌, ⊤, ℕ, List, IfSome}
 use Rattle.gw_due.specs.Due.{Name}
 use Rattle.gw_due.specs.State.{State}
 use Rattle.gw_journal.specs.Stored.{Held, StoredState}

@@ -1,7 +1,6 @@
 //! Why no log was opened.
-use gw_due::{SpellFault, StartFault};
+use gw_due::StartFault;
 use gw_log::LogFault;
-use std::alloc::AllocError;
 use thiserror::Error;
 
 /// Why no log was opened.

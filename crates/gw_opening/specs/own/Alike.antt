@@ -14,7 +14,6 @@ use Rattle.gw_journal.specs.Stored.{IsKept, LastState}
 use Rattle.gw_ledger.specs.Ledgers.{Tells, events_of}
 use Rattle.gw_log.specs.Disk.{Files}
 use Rattle.gw_due.specs.declared.fault.StartFault.TheVariants.{Checkpoint, Record}
-use Rattle.gw_opening.specs.Begun.{IsSound}
 use Rattle.gw_opening.specs.Folders.{IsFolder}
 use Rattle.gw_opening.specs.declared.fault.OpenFault.{OpenFault}
 use Rattle.gw_opening.specs.declared.fault.OpenFault.TheVariants.{Log, Start, Numbers}

@@ -22,8 +22,8 @@ use crate::sockets::{listen, listen_briefly};
 use crate::stamps::{microseconds, stamp_of};
 use clap::ArgMatches;
 use gw_ack::Stamp;
-use gw_gateway::{ByPlans, Office, PutFault};
 use gw_folder::RealFolder;
+use gw_gateway::{ByPlans, Office, PutFault};
 use gw_journal::{Journal, Naming, Opened, Storage};
 use gw_ledger::Ledger;
 use gw_opening::{Begun, Found};
@@ -253,10 +253,7 @@ pub(crate) fn gateway<
     'a,
     F: Found<ByPlans> + Send + Sync,
     R: Runtime + Threads + Wait + Net<Stream = TcpStream, Listener = TcpListener>,
->(
-    rt: &R,
-    words: &ArgMatches<'a>,
-) -> Result<u8, Ended<'a>> {
+>(rt: &R, words: &ArgMatches<'a>) -> Result<u8, Ended<'a>> {
     let most = count_or(words, "connections", CONNECTIONS)?;
     let Some(start) = stamp_of(rt, None) else {
         return Err(Ended::Stamp);

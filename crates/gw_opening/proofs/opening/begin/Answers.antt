@@ -1,4 +1,3 @@
-use Rattle.std.proofs.Common.{◌∙◌}
 use Rattle.gw_opening.proofs.Reading.{tells_none}
 use Rattle.gw_opening.proofs.opening.begin.Goals as goal
 

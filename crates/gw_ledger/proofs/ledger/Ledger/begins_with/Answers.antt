@@ -1,4 +1,4 @@
-use Rattle.std.proofs.Common.{◌≡◌, ap, ◌∙◌, subst}
+use Rattle.std.proofs.Common.{ap, ◌∙◌, subst}
 use Rattle.gw_ledger.specs.Backlogs.{BacklogState, IsBacklog}
 use Rattle.gw_ledger.specs.Ledgers.{LedgerState}
 use Rattle.gw_ledger.proofs.Remaining.{begins_by}

@@ -1,4 +1,4 @@
-use Rattle.std.proofs.Common.{◌≡◌, refl, ap, ◌∙◌, subst}
+use Rattle.std.proofs.Common.{refl, ap, ◌∙◌, subst}
 use Rattle.gw_due.specs.Views as view
 use Rattle.gw_ledger.specs.Backlogs.{BacklogState, IsBacklog}
 use Rattle.gw_ledger.specs.Finding.{FoundState}

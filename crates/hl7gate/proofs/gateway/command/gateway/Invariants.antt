@@ -1,4 +1,3 @@
-use Rattle.std.proofs.Common.{[]}
 use Rattle.hl7gate.proofs.gateway.command.gateway.Given as goal
 
 -- the book that was just opened, and the records of the log that was found
