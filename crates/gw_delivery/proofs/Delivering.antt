@@ -9,19 +9,22 @@ use Rattle.gw_due.specs.Events.{Event}
 use Rattle.gw_due.specs.Due.{passed}
 use Rattle.gw_due.specs.Runs.{IsRun}
 use Rattle.gw_mllp.specs.Stream.{block}
-use Rattle.gw_stream.specs.Sent.{BeginsWith}
+use Rattle.gw_stream.specs.Sent as device
 use Rattle.gw_forward.specs.declared.outbox.Outbox as outbox
 use Rattle.gw_forward.specs.declared.fault.ForwardFault.{ForwardFault}
 use Rattle.gw_forward.specs.declared.fault.OutboxFault.{OutboxFault}
 use Rattle.gw_forward.specs.declared.forwarding.Ended.{Ended}
 use Rattle.gw_forward.specs.Forwards.{Breaks, Exchanged, Finishes, Forwards, Sending, Sends, none_left, none_sent, not_given, not_made, not_settled, sent_last, sent_one, unsendable, unsent}
 use Rattle.gw_journal.specs.declared.event.Event as happened
-use Rattle.gw_ledger.specs.Backlogs.{BacklogState, Between, GoesOn, HasPassed, IsFirstLeft}
+use Rattle.gw_ledger.specs.Backlogs.{BacklogState, BeginsWith, Between, GoesOn, HasPassed, IsFirstLeft}
 use Rattle.gw_ledger.specs.Finding.{InJournal}
 use Rattle.gw_ledger.specs.Ledgers.{events_of}
 use Rattle.gw_ledger.proofs.Remaining.{goes_same, goes_trans, parts}
 use Rattle.gw_delivery.specs.Delivering.{Delivers, EndsWith, HasDelivered, HasStopped, IsHandedOver, IsRunBetween, all_passed, at_once, later, none_yet, one_again, one_begun, one_more}
-use Rattle.gw_delivery.specs.Waiting.{Closes, Follows, Gives, IsHanded, IsPassed, NextState, Passes, PassesNext, Settles, Stays, WaitingState, how}
+use Rattle.gw_delivery.specs.Made.{IsMadeAt}
+use Rattle.gw_delivery.proofs.Making.{made_stays}
+use Rattle.gw_delivery.proofs.Seeing.{later as seen_later}
+use Rattle.gw_delivery.specs.Waiting.{Closes, Follows, Gives, IsHanded, IsNextFor, IsPassed, Keeps, NextState, Passes, PassesNext, Settles, Stays, WaitingState, how}
 
 -- ---- what is left, as it goes on
 
@@ -66,6 +69,69 @@ closes_behind before a b c f g = record { receiver = g.receiver ∙ f.receiver; 
 
 pub stays_closes : (before : List (List ℕ)) (a b : WaitingState) → Stays before a b → Closes before a b
 stays_closes before a b f = record { receiver = f.receiver; name = f.name; backlog = inr f.backlog }
+
+-- what is left is the same
+pub kept_stays : (before : List (List ℕ)) (a b : WaitingState) → b.receiver ≡ a.receiver → b.name ≡ a.name → b.backlog ≡ a.backlog → Stays before a b
+kept_stays before a b receiver name same = record { receiver = receiver; name = name; backlog = follows_same before a.backlog b.backlog same }
+
+pub kept : (before : List (List ℕ)) (a b : WaitingState) → Keeps a b → Stays before a b
+kept before a b k = kept_stays before a b k.receiver k.name k.backlog
+
+unchanged : (before : List (List ℕ)) (a b : WaitingState) → b ≡ a → Stays before a b
+unchanged before a b same =
+    kept_stays before a b (ap (λ (w : WaitingState). w.receiver) same) (ap (λ (w : WaitingState). w.name) same) (ap (λ (w : WaitingState). w.backlog) same)
+
+-- it was looked up, where that wasn't done yet
+pub begun_stays : (before : List (List ℕ)) (a b : WaitingState) → b.receiver ≡ a.receiver → b.name ≡ a.name → IfSome a.backlog (λ was. b.backlog ≡ Some was) → Stays before a b
+begun_stays before a b receiver name same = record { receiver = receiver; name = name; backlog = by a.backlog same } where
+  by : (o : Option BacklogState) → IfSome o (λ was. b.backlog ≡ Some was) → Follows before o b.backlog
+  by None same = tt
+  by (Some was) same = follows_same before (Some was) b.backlog same
+
+-- ---- behind a step that passed nothing
+
+pub any_err : {A E : Type 0} (r : Result A E) (P : Type 0) → P → IfErr r (λ fault. P)
+any_err (Ok x) P holds = tt
+any_err (Err fault) P holds = holds
+
+module _ {V E : Type 0} (items : V → List ℕ) (before : List (List ℕ)) (a b c : WaitingState) (stays : Stays before a b) where
+  pub given_behind : (r : Result (Option V) E) → IfOk r (λ found. IfSome found (λ x. Gives before b c (items x)))
+      → IfOk r (λ found. IfSome found (λ x. Gives before a c (items x)))
+  given_behind (Ok None) given = tt
+  given_behind (Ok (Some x)) given = gives_behind before a b c (items x) stays given
+  given_behind (Err fault) given = tt
+
+  pub closed_behind : (r : Result (Option V) E) → IfOk r (λ found. IsNone found → Closes before b c) → IfOk r (λ found. IsNone found → Closes before a c)
+  closed_behind (Ok found) closed = λ none. closes_behind before a b c stays (closed none)
+  closed_behind (Err fault) closed = tt
+
+  pub broken_behind : (r : Result (Option V) E) → OnErr r (Keeps b c) → IfErr r (λ fault. Stays before a c)
+  broken_behind (Ok found) broken = tt
+  broken_behind (Err fault) broken = stays_trans before a b c stays (kept before b c broken)
+
+-- what is next was given
+pub gives_by : (before : List (List ℕ)) (receiver : ℕ) (name : List ℕ) (old : Option BacklogState) (was now : BacklogState) (next : NextState) (nexts : Option NextState)
+    (place : ℕ) (bytes : List ℕ) → old ≡ Some was → nexts ≡ Some next → was.receiver ≡ receiver → next.name ≡ name → BeginsWith before was now place
+    → place ≡ next.place → IsNextFor before next → IsPrefix next.history now.history → bytes ≡ next.bytes
+    → Gives before (record { receiver = receiver; name = name; backlog = old; next = nexts })
+    (record { receiver = receiver; name = name; backlog = Some now; next = nexts }) bytes
+gives_by before receiver name old was now next nexts place bytes is there of named first at made p are = record {
+  stays = record { receiver = refl; name = refl; backlog = subst (λ o. Follows before o (Some now)) (sym is) first.on };
+  given = record {
+    backlog = now;
+    left = refl;
+    next = next;
+    is = there;
+    handed = record {
+      of = first.on.receiver ∙ of;
+      first = subst (λ k. InJournal (IsFirstLeft receiver k) before now.history) at
+          (subst (λ r. InJournal (IsFirstLeft r place) before now.history) of first.first);
+      made = subst (λ b. InJournal (IsMadeAt name next.place b) before now.history) (sym are)
+          (subst (λ n. InJournal (IsMadeAt n next.place next.bytes) before now.history) named
+          (seen_later (IsMadeAt next.name next.place next.bytes) before next.history now.history (made_stays next.name next.place next.bytes) made.made p));
+    };
+  };
+}
 
 -- ---- runs
 
@@ -167,51 +233,67 @@ module _ {O : Type 0} (of : outbox.Ghosts O) (see : O → WaitingState) (before 
     next_is : (see given).next ≡ Some next
     handed : IsHanded before (see from).receiver (see from).name next.place bytes now
 
+  given_so : (from mid to : O) (sent bytes : List ℕ) (s : SoFar from mid sent) (g : Gives before (see mid) (see to) bytes)
+      (k : Known before s.mid (see to).backlog) → g.given.backlog ≡ k.now → Given from mid to s.mid bytes
+  given_so from mid to sent bytes s g k same = record {
+    receiver = g.stays.receiver ∙ s.receiver;
+    name = g.stays.name ∙ s.name;
+    now = k.now;
+    is = k.is;
+    on = k.on;
+    next = g.given.next;
+    next_is = g.given.is;
+    handed = subst (λ b. IsHanded before (see from).receiver (see from).name g.given.next.place bytes b) same
+        (subst (λ n. IsHanded before (see from).receiver n g.given.next.place bytes g.given.backlog) (g.stays.name ∙ s.name)
+        (subst (λ r. IsHanded before r (see to).name g.given.next.place bytes g.given.backlog) (g.stays.receiver ∙ s.receiver) g.given.handed));
+  }
+
+  given_known : (from mid to : O) (sent bytes : List ℕ) (s : SoFar from mid sent) (g : Gives before (see mid) (see to) bytes)
+      (k : Known before s.mid (see to).backlog) → Given from mid to s.mid bytes
+  given_known from mid to sent bytes s g k = given_so from mid to sent bytes s g k (cc (g.given.left, k.is))
+
   given_by : (from mid to : O) (sent bytes : List ℕ) → (s : SoFar from mid sent) → of.gives mid to bytes → Given from mid to s.mid bytes
   given_by from mid to sent bytes s is =
-      let g = gives mid to bytes is in
-      let k = known before s.mid (see mid).backlog (see to).backlog s.is g.stays.backlog in
-      let same : g.given.backlog ≡ k.now = cc (g.given.left, k.is) in
-      let receiver = g.stays.receiver ∙ s.receiver in
-      let name = g.stays.name ∙ s.name in
-      record {
-        receiver = receiver;
-        name = name;
-        now = k.now;
-        is = k.is;
-        on = k.on;
-        next = g.given.next;
-        next_is = g.given.is;
-        handed = subst (λ b. IsHanded before (see from).receiver (see from).name g.given.next.place bytes b) same
-            (subst (λ n. IsHanded before (see from).receiver n g.given.next.place bytes g.given.backlog) name
-            (subst (λ r. IsHanded before r (see to).name g.given.next.place bytes g.given.backlog) receiver g.given.handed));
-      }
+      given_known from mid to sent bytes s (gives mid to bytes is) (known before s.mid (see mid).backlog (see to).backlog s.is (gives mid to bytes is).stays.backlog)
+
+  -- that one was passed
+  passed_by : (from mid given to : O) (sent bytes : List ℕ) (ack : Ack) (w : SoFar from mid sent) (g : Given from mid given w.mid bytes)
+      (p : PassesNext before (see given) (see to) (how ack)) → p.next ≡ g.next → p.passes.was ≡ g.now
+      → IsPassed before p.passes.was.receiver p.next.place (how ack) p.passes.history → GoesOn before p.passes.was p.passes.now (p.next.place ∷ [])
+      → SoFar from to (sent ++ block bytes)
+  passed_by from mid given to sent bytes ack w g p same_next same_left stored on = record {
+    receiver = p.passes.receiver ∙ g.receiver;
+    name = p.passes.name ∙ g.name;
+    mid = p.passes.now;
+    is = p.passes.left_now;
+    places = w.places ++ g.next.place ∷ [];
+    delivers = one_more w.places sent w.mid g.now p.passes.now g.next.place bytes (how ack) p.passes.history w.delivers g.on g.handed
+        (subst (λ r. IsPassed before r g.next.place (how ack) p.passes.history) g.handed.of
+        (subst (λ (b : BacklogState). IsPassed before b.receiver g.next.place (how ack) p.passes.history) same_left
+        (subst (λ (n : NextState). IsPassed before p.passes.was.receiver n.place (how ack) p.passes.history) same_next stored)))
+        (subst (λ b. GoesOn before b p.passes.now (g.next.place ∷ [])) same_left
+        (subst (λ (n : NextState). GoesOn before p.passes.was p.passes.now (n.place ∷ [])) same_next on));
+  }
+
+  same_some : {A : Type 0} (o : Option A) (x y : A) → o ≡ Some x → o ≡ Some y → y ≡ x
+  same_some o x y p q = cc (p, q)
+
+  one_sent : (from mid given to : O) (sent bytes : List ℕ) (ack : Ack) (w : SoFar from mid sent) (g : Given from mid given w.mid bytes)
+      → PassesNext before (see given) (see to) (how ack) → SoFar from to (sent ++ block bytes)
+  one_sent from mid given to sent bytes ack w g p =
+      passed_by from mid given to sent bytes ack w g p (same_some (see given).next g.next p.next g.next_is p.was_next)
+      (same_some (see given).backlog g.now p.passes.was g.is p.passes.left) p.passes.stored p.passes.on
+
+  sent_more : (from mid given to : O) (sent bytes : List ℕ) (ack : Ack) → SoFar from mid sent → of.gives mid given bytes
+      → of.settles given to ack true → SoFar from to (sent ++ block bytes)
+  sent_more from mid given to sent bytes ack w gave settled =
+      one_sent from mid given to sent bytes ack w (given_by from mid given sent bytes w gave) (settles given to ack true settled)
 
   so_far : (from : O) (records : List (List ℕ)) (sent : List ℕ) (blocks : List (List ℕ)) (to : O) → (see from).backlog ≡ Some start
       → Sends of from records sent blocks to → SoFar from to sent
   so_far from _ _ _ _ begins none_sent = record { receiver = refl; name = refl; mid = start; is = begins; places = []; delivers = none_yet }
   so_far from _ _ _ _ begins (sent_one records sent blocks mid given to bytes content ack was x settled) =
-      let w = so_far from records sent blocks mid begins was in
-      let g = given_by from mid given sent bytes w x.gives in
-      let p = settles given to ack true settled in
-      let same_next : p.next ≡ g.next = cc (g.next_is, p.was_next) in
-      let same_left : p.passes.was ≡ g.now = cc (g.is, p.passes.left) in
-      let r = (see from).receiver in
-      let stored : IsPassed before r g.next.place (how ack) p.passes.history =
-      subst (λ k. IsPassed before k g.next.place (how ack) p.passes.history) g.handed.of
-      (subst (λ (b : BacklogState). IsPassed before b.receiver g.next.place (how ack) p.passes.history) same_left
-      (subst (λ (n : NextState). IsPassed before p.passes.was.receiver n.place (how ack) p.passes.history) same_next p.passes.stored)) in
-      let on : GoesOn before g.now p.passes.now (g.next.place ∷ []) =
-      subst (λ b. GoesOn before b p.passes.now (g.next.place ∷ [])) same_left
-      (subst (λ (n : NextState). GoesOn before p.passes.was p.passes.now (n.place ∷ [])) same_next p.passes.on) in
-      record {
-        receiver = p.passes.receiver ∙ g.receiver;
-        name = p.passes.name ∙ g.name;
-        mid = p.passes.now;
-        is = p.passes.left_now;
-        places = w.places ++ g.next.place ∷ [];
-        delivers = one_more w.places sent w.mid g.now p.passes.now g.next.place bytes (how ack) p.passes.history w.delivers g.on g.handed stored on;
-      }
+      sent_more from mid given to sent bytes ack (so_far from records sent blocks mid begins was) x.gives settled
 
   -- what is kept of it
   none_after : (from mid to : O) (sent : List ℕ) (had has : Option (List ℕ)) → (s : SoFar from mid sent) → Appends had has sent
@@ -243,6 +325,32 @@ module _ {O : Type 0} (of : outbox.Ghosts O) (see : O → WaitingState) (before 
     stays = inr (subst (λ o. Follows before o (see to).backlog) g.is kept.backlog);
   }
 
+  -- the last one was sent whole, or a beginning of it
+  last_with : (from mid given to : O) (sent bytes : List ℕ) (had has : Option (List ℕ)) (s : SoFar from mid sent) → Given from mid given s.mid bytes
+      → Appends had has (sent ++ block bytes) → Stays before (see given) (see to) → (see from).backlog ≡ Some start → start.receiver ≡ (see from).receiver
+      → HasDelivered before (see from) (see to) had has
+  last_with from mid given to sent bytes had has s g wrote kept begins is =
+      one_after from mid given to sent (block bytes) bytes had has s g (one_again g.now g.next.place bytes g.on g.handed) wrote kept begins is
+
+  last_after : (from mid given to : O) (sent bytes : List ℕ) (had has : Option (List ℕ)) → SoFar from mid sent → of.gives mid given bytes
+      → Appends had has (sent ++ block bytes) → Stays before (see given) (see to) → (see from).backlog ≡ Some start → start.receiver ≡ (see from).receiver
+      → HasDelivered before (see from) (see to) had has
+  last_after from mid given to sent bytes had has s gave wrote kept begins is =
+      last_with from mid given to sent bytes had has s (given_by from mid given sent bytes s gave) wrote kept begins is
+
+  begun_with : (from mid given : O) (sent bytes part : List ℕ) (had has : Option (List ℕ)) (s : SoFar from mid sent) → Given from mid given s.mid bytes
+      → device.BeginsWith (block bytes) part → Appends had has (sent ++ part) → (see from).backlog ≡ Some start → start.receiver ≡ (see from).receiver
+      → HasDelivered before (see from) (see given) had has
+  begun_with from mid given sent bytes part had has s g begin wrote begins is =
+      one_after from mid given given sent part bytes had has s g (one_begun g.now g.next.place bytes part g.on g.handed begin) wrote
+      (kept_stays before (see given) (see given) refl refl refl) begins is
+
+  begun_after : (from mid given : O) (sent bytes part : List ℕ) (had has : Option (List ℕ)) → SoFar from mid sent → of.gives mid given bytes
+      → device.BeginsWith (block bytes) part → Appends had has (sent ++ part) → (see from).backlog ≡ Some start → start.receiver ≡ (see from).receiver
+      → HasDelivered before (see from) (see given) had has
+  begun_after from mid given sent bytes part had has s gave begin wrote begins is =
+      begun_with from mid given sent bytes part had has s (given_by from mid given sent bytes s gave) begin wrote begins is
+
   pub has_delivered : (stream had has : Option (List ℕ)) (from to : O) (ended : Ended) → (see from).backlog ≡ Some start → start.receiver ≡ (see from).receiver
       → Forwards of stream had has from to ended → HasDelivered before (see from) (see to) had has
   has_delivered stream had has from to ended begins is f = by f.records f.sent f.blocks ended f.finishes f.wrote
@@ -252,31 +360,25 @@ module _ {O : Type 0} (of : outbox.Ghosts O) (see : O → WaitingState) (before 
       by _ _ _ _ (none_left records sent blocks mid _ was closed) wrote =
           none_after from mid to sent had has (so_far from records sent blocks mid begins was) wrote (closes mid to closed).backlog begins is
       by _ _ _ _ (sent_last records sent blocks mid given _ bytes content ack was x settled) wrote =
-          let s = so_far from records sent blocks mid begins was in
-          let g = given_by from mid given sent bytes s x.gives in
-          one_after from mid given to sent (block bytes) bytes had has s g (one_again g.now g.next.place bytes g.on g.handed) wrote (settles given to ack false settled) begins is
+          last_after from mid given to sent bytes had has (so_far from records sent blocks mid begins was) x.gives wrote
+          (unchanged before (see given) (see to) (settles given to ack false settled)) begins is
 
   module _ (breaks : (s t : O) → (fault : OutboxFault) → of.breaks s t fault → Stays before (see s) (see t))
-      (fails : (s t : O) (ack : Ack) (fault : OutboxFault) → of.fails s t ack fault → Stays before (see s) (see t)) where
+      (fails : (s t : O) (ack : Ack) (fault : OutboxFault) → of.fails s t ack fault → Keeps (see s) (see t)) where
     pub has_broken : (writer reader : Bool) (first reads : ℕ) (stream had has : Option (List ℕ)) (from to : O) (fault : ForwardFault) → (see from).backlog ≡ Some start
         → start.receiver ≡ (see from).receiver → Breaks of writer reader first reads stream had has from to fault → HasDelivered before (see from) (see to) had has
     has_broken writer reader first reads stream had has from to _ begins is (not_given n records blocks mid fault w r s broken) =
         none_after from mid to s.sent had has (so_far from records s.sent blocks mid begins s.sends) s.wrote (inr (breaks mid to fault broken).backlog) begins is
     has_broken writer reader first reads stream had has from to _ begins is (not_settled n records blocks mid given between bytes content ack fault w r s x wrote failed) =
-        let f = so_far from records s.sent blocks mid begins s.sends in
-        let g = given_by from mid given s.sent bytes f x.gives in
-        one_after from mid given to s.sent (block bytes) bytes had has f g (one_again g.now g.next.place bytes g.on g.handed)
-        (appends_more had between has s.sent (block bytes) s.wrote wrote) (fails given to ack fault failed) begins is
+        last_after from mid given to s.sent bytes had has (so_far from records s.sent blocks mid begins s.sends) x.gives
+        (appends_more had between has s.sent (block bytes) s.wrote wrote) (kept before (see given) (see to) (fails given to ack fault failed)) begins is
     has_broken writer reader first reads stream had has from to _ begins is (not_made records blocks mid bytes w r s given) =
         none_after from mid to s.sent had has (so_far from records s.sent blocks mid begins s.sends) s.wrote (inr (gives mid to bytes given).stays.backlog) begins is
     has_broken writer reader first reads stream had has from to _ begins is (unsendable n records blocks mid bytes w r s given none) =
         none_after from mid to s.sent had has (so_far from records s.sent blocks mid begins s.sends) s.wrote (inr (gives mid to bytes given).stays.backlog) begins is
-    has_broken writer reader first reads stream had has from to _ begins is (unsent n records blocks mid bytes control between part fault s given record_is begin wrote line) =
-        let f = so_far from records s.sent blocks mid begins s.sends in
-        let g = given_by from mid to s.sent bytes f given in
-        one_after from mid to to s.sent part bytes had has f g (one_begun g.now g.next.place bytes part g.on g.handed begin)
-        (appends_more had between has s.sent part s.wrote wrote)
-        (record { receiver = refl; name = refl; backlog = follows_same before (see to).backlog (see to).backlog refl }) begins is
+    has_broken writer reader first reads stream had has from to _ begins is (unsent n records blocks mid bytes control between part fault s gave record_is begin wrote line) =
+        begun_after from mid to s.sent bytes part had has (so_far from records s.sent blocks mid begins s.sends) gave begin
+        (appends_more had between has s.sent part s.wrote wrote) begins is
 
 -- ---- from what was known before what is left was looked up
 
@@ -328,7 +430,7 @@ module _ {O : Type 0} (of : outbox.Ghosts O) (see : O → WaitingState) (before 
   on_delivered (Err fault) f = tt
 
   pub on_stopped : ((s t : O) → (fault : OutboxFault) → of.breaks s t fault → Stays before (see s) (see t))
-      → ((s t : O) (ack : Ack) (fault : OutboxFault) → of.fails s t ack fault → Stays before (see s) (see t))
+      → ((s t : O) (ack : Ack) (fault : OutboxFault) → of.fails s t ack fault → Keeps (see s) (see t))
       → (writer reader : Bool) (first reads : ℕ) (r : Result Ended ForwardFault) → IfErr r (Breaks of writer reader first reads stream had has begun new)
       → OnErr r (HasStopped before old (see new) had has)
   on_stopped breaks fails writer reader first reads (Ok ended) f = tt

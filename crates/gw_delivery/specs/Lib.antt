@@ -3,4 +3,3 @@ pub mod Made
 pub mod Waiting
 pub mod Delivering
 pub mod Calls
-pub mod own

@@ -44,6 +44,12 @@ pub record Stays (before : List (List ℕ)) (old new : WaitingState) : Type 0 wh
   pub name : new.name ≡ old.name
   pub backlog : Follows before old.backlog new.backlog
 
+-- all is as it was, but for what is next
+pub record Keeps (old new : WaitingState) : Type 0 where
+  pub receiver : new.receiver ≡ old.receiver
+  pub name : new.name ≡ old.name
+  pub backlog : new.backlog ≡ old.backlog
+
 -- nothing more is given; or the log can't be read on from there, and what is left is to be looked up anew
 pub record Closes (before : List (List ℕ)) (old new : WaitingState) : Type 0 where
   pub receiver : new.receiver ≡ old.receiver
@@ -99,10 +105,10 @@ pub record PassesNext (before : List (List ℕ)) (old new : WaitingState) (passe
   pub was_next : old.next ≡ Some next
   pub passes : Passes before old new next.place passed
 
--- what was next is settled: the receiver passed it, or it is to be sent again
+-- what was next is settled: the receiver passed it; or it is to be sent again, and nothing changed
 abbrev pub Settles : List (List ℕ) → WaitingState → WaitingState → Ack → Bool → Type 0
 Settles before old new ack true = PassesNext before old new (how ack)
-Settles before old new ack false = Stays before old new
+Settles before old new ack false = new ≡ old
 
 -- The first that is left was passed as refused, and was not sent: it can't be made, or no block can have it
 pub record PutsAside (before : List (List ℕ)) (old new : WaitingState) : Type 0 where

@@ -3,8 +3,7 @@ ghost use Rattle.std.specs.Prelude.{◌≡◌, ◌+◌, ◌∷◌, [], IfOk, IfS
 ghost use Rattle.gw_due.specs.Views as view;
 ghost use Rattle.gw_ledger.specs.Backlogs.{GoesOn};
 ghost use Rattle.gw_delivery.specs.Waiting as spec;
-ghost use Rattle.gw_delivery.specs.Waiting.{Closes, Follows, Gives, IsPassed, Passes, PassesNext, PutsAside, Stays};
-ghost use Rattle.gw_delivery.specs.own.Steps.{Keeps};
+ghost use Rattle.gw_delivery.specs.Waiting.{Closes, Gives, IsPassed, Keeps, PassesNext, PutsAside, Stays};
 
 use crate::fault::PageFault;
 use crate::finder::Finder;
@@ -188,7 +187,7 @@ impl<'a, J: Naming, S: Storage + Drop, V: Calls + Drop, R: Wait, L: Line, T: Tim
         ensures of { IsTrue result → IfSome self.new.backlog (λ b. b.receiver ≡ self.new.receiver) }
         ensures same { IfSome self.old.backlog (λ was. self.new.backlog ≡ Some was) }
         ensures receiver { self.new.receiver ≡ self.old.receiver }
-        ensures name { self.new.name ≡ self.old.name }
+        ensures name { self.new.name.now ≡ self.old.name.now }
     {
         if let Some(backlog) = &self.backlog {
             return backlog.receiver() == self.receiver;
@@ -240,7 +239,7 @@ impl<'a, J: Naming, S: Storage + Drop, V: Calls + Drop, R: Wait, L: Line, T: Tim
         ensures closed { IfOk result (λ found. IsNone found → Closes J.before
             (record { receiver = self.old.receiver; name = self.old.name.now; backlog = self.old.backlog; next = self.old.next })
             (record { receiver = self.new.receiver; name = self.new.name.now; backlog = self.new.backlog; next = self.new.next })) }
-        ensures broken { OnErr result (Stays J.before (record { receiver = self.old.receiver; name = self.old.name.now; backlog = self.old.backlog; next = self.old.next })
+        ensures broken { OnErr result (Keeps (record { receiver = self.old.receiver; name = self.old.name.now; backlog = self.old.backlog; next = self.old.next })
             (record { receiver = self.new.receiver; name = self.new.name.now; backlog = self.new.backlog; next = self.new.next })) }
     {
         let Some(next) = &self.next else {
@@ -302,12 +301,15 @@ impl<'a, J: Naming, S: Storage + Drop, V: Calls + Drop, R: Wait, L: Line, T: Tim
         }
     }
 
-    // Whether what is next is known, or can't be told any more.
+    // Whether what is next is known, or can't be told any more. Nothing is looked for while the line is held back.
     fn is_ready(&mut self) -> Result<bool, OutboxFault>
         ensures count { self.new.count ≡ self.old.count }
         ensures stays { Stays J.before (record { receiver = self.old.receiver; name = self.old.name.now; backlog = self.old.backlog; next = self.old.next })
             (record { receiver = self.new.receiver; name = self.new.name.now; backlog = self.new.backlog; next = self.new.next }) }
     {
+        if self.line.is_held() {
+            return Ok(false);
+        }
         if self.next.is_some() {
             return Ok(true);
         }
@@ -360,7 +362,7 @@ impl<'a, J: Naming, S: Storage + Drop, V: Calls + Drop, R: Wait, L: Line, T: Tim
     fn pass(&mut self, how: How<'_>) -> Result<u64, OutboxFault>
         ensures passes { OnOk result (PassesNext J.before (record { receiver = self.old.receiver; name = self.old.name.now; backlog = self.old.backlog; next = self.old.next })
             (record { receiver = self.new.receiver; name = self.new.name.now; backlog = self.new.backlog; next = self.new.next }) (view.how how.entry)) }
-        ensures stays { OnErr result (Stays J.before (record { receiver = self.old.receiver; name = self.old.name.now; backlog = self.old.backlog; next = self.old.next })
+        ensures keeps { OnErr result (Keeps (record { receiver = self.old.receiver; name = self.old.name.now; backlog = self.old.backlog; next = self.old.next })
             (record { receiver = self.new.receiver; name = self.new.name.now; backlog = self.new.backlog; next = self.new.next })) }
         ensures counted { OnOk result (self.new.count ≡ self.old.count + 1) }
         ensures uncounted { OnErr result (self.new.count ≡ self.old.count) }
@@ -385,18 +387,18 @@ impl<'a, J: Naming, S: Storage + Drop, V: Calls + Drop, R: Wait, L: Line, T: Tim
     fn pass_unmade(&mut self) -> Result<(), OutboxFault>
         ensures aside { OnOk result (PutsAside J.before (record { receiver = self.old.receiver; name = self.old.name.now; backlog = self.old.backlog; next = self.old.next })
             (record { receiver = self.new.receiver; name = self.new.name.now; backlog = self.new.backlog; next = self.new.next })) }
-        ensures stays { OnErr result (Stays J.before (record { receiver = self.old.receiver; name = self.old.name.now; backlog = self.old.backlog; next = self.old.next })
+        ensures keeps { OnErr result (Keeps (record { receiver = self.old.receiver; name = self.old.name.now; backlog = self.old.backlog; next = self.old.next })
             (record { receiver = self.new.receiver; name = self.new.name.now; backlog = self.new.backlog; next = self.new.next })) }
     {
-        let Some((found, fault)) = &self.finder.aside else {
+        let Some(aside) = &self.finder.aside else {
             return Err(OutboxFault::Record);
         };
         let Some(backlog) = &self.backlog else {
             return Err(OutboxFault::Record);
         };
-        let (time, place, fault) = (self.times.time(), found.place(), *fault);
+        let (time, place, fault) = (self.times.time(), aside.0.place(), aside.1);
         let (rt, journal) = (self.finder.rt, self.finder.journal);
-        let (_receipt, left) = passed(rt, journal, time, backlog, found, how(Ack::AR))?;
+        let (_receipt, left) = passed(rt, journal, time, backlog, &aside.0, how(Ack::AR))?;
         if !self.go_on(left) {
             return Err(OutboxFault::Disk);
         }
@@ -409,7 +411,7 @@ impl<'a, J: Naming, S: Storage + Drop, V: Calls + Drop, R: Wait, L: Line, T: Tim
     pub fn put_aside(&mut self) -> Result<(), OutboxFault>
         ensures aside { OnOk result (PutsAside J.before (record { receiver = self.old.receiver; name = self.old.name.now; backlog = self.old.backlog; next = self.old.next })
             (record { receiver = self.new.receiver; name = self.new.name.now; backlog = self.new.backlog; next = self.new.next })) }
-        ensures stays { OnErr result (Stays J.before (record { receiver = self.old.receiver; name = self.old.name.now; backlog = self.old.backlog; next = self.old.next })
+        ensures keeps { OnErr result (Keeps (record { receiver = self.old.receiver; name = self.old.name.now; backlog = self.old.backlog; next = self.old.next })
             (record { receiver = self.new.receiver; name = self.new.name.now; backlog = self.new.backlog; next = self.new.next })) }
     {
         if self.next.is_none() {
@@ -423,7 +425,7 @@ impl<'a, J: Naming, S: Storage + Drop, V: Calls + Drop, R: Wait, L: Line, T: Tim
 
 impl<J: Naming, S: Storage + Drop, V: Calls + Drop, R: Wait, L: Line, T: Times> Outbox
     for Pending<'_, J, S, V, R, L, T> {
-    ghost use Rattle.gw_delivery.specs.Waiting.{Closes, Gives, Settles, Stays};
+    ghost use Rattle.gw_delivery.specs.Waiting.{Closes, Gives, Keeps, Settles, Stays};
 
     ghost count = { λ p. p.count };
 
@@ -439,7 +441,7 @@ impl<J: Naming, S: Storage + Drop, V: Calls + Drop, R: Wait, L: Line, T: Times> 
     ghost settles = { λ old new ack taken. Settles J.before (record { receiver = old.receiver; name = old.name.now; backlog = old.backlog; next = old.next })
         (record { receiver = new.receiver; name = new.name.now; backlog = new.backlog; next = new.next }) ack taken };
 
-    ghost fails = { λ old new ack fault. Stays J.before (record { receiver = old.receiver; name = old.name.now; backlog = old.backlog; next = old.next })
+    ghost fails = { λ old new ack fault. Keeps (record { receiver = old.receiver; name = old.name.now; backlog = old.backlog; next = old.next })
         (record { receiver = new.receiver; name = new.name.now; backlog = new.backlog; next = new.next }) };
 
     fn count(&self) -> u64 {
@@ -451,7 +453,7 @@ impl<J: Naming, S: Storage + Drop, V: Calls + Drop, R: Wait, L: Line, T: Times> 
             if self.line.has_ended() {
                 return Ok(None);
             }
-            if !self.line.is_held() && self.is_ready()? {
+            if self.is_ready()? {
                 return self.given();
             }
             self.line.wait();
