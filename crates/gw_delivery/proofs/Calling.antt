@@ -1,14 +1,14 @@
 -- All calls over one journal, as runs.
-use Rattle.std.proofs.Common.{◌≡◌, inl, ℕ, List, [], ◌∷◌, map, refl, sym, ◌∙◌, subst}
+use Rattle.std.proofs.Common.{◌≡◌, ◌⊎◌, inl, inr, ℕ, zero, suc, List, [], ◌∷◌, ◌++◌, map, length, drop, Some, slice_get, refl, ap, sym, ◌∙◌, subst}
 use Rattle.std.proofs.lemmas.List.{append-nil}
 use mathlib.Core.List.{IsPrefix}
 use Rattle.gw_due.specs.Events.{Event}
-use Rattle.gw_due.specs.Due.{Name, due_since, passed}
+use Rattle.gw_due.specs.Due.{Name, due, due_since, left, passed}
 use Rattle.gw_due.specs.Lawful.{Lawful}
 use Rattle.gw_due.specs.Runs.{Covers, IsRun, Runs, no_run, one_run}
 use Rattle.gw_due.specs.Spelling.{Entry}
 use Rattle.gw_due.proofs.Covering.{covering}
-use Rattle.gw_due.proofs.Growing.{ordered}
+use Rattle.gw_due.proofs.Growing.{due_grows, ordered}
 use Rattle.gw_journal.specs.declared.event.Event as happened
 use Rattle.gw_journal.specs.Logs.{AreFaithful, log_in}
 use Rattle.gw_journal.proofs.Logging.{log_later}
@@ -54,3 +54,32 @@ module _ (before : List (List ℕ)) (receiver : ℕ) where
   all_covered Routes old new calls is faithful these those spells later_spells lawful =
       covering receiver (events_of these) (events_of those) (map places_of calls) (runs_of old new calls is faithful these those spells later_spells)
       (ordered Routes (events_of those) lawful receiver)
+
+-- ---- a run, by the log of the next start
+
+longer : (n : ℕ) (xs ys : List ℕ) (x : ℕ) → slice_get (drop n xs) 0 ≡ Some x → slice_get (drop n (xs ++ ys)) 0 ≡ Some x
+longer zero [] ys x e = absurd (cc e)
+longer zero (z ∷ xs) ys x e = e
+longer (suc n) [] ys x e = absurd (cc e)
+longer (suc n) (z ∷ xs) ys x e = longer n xs ys x e
+
+pub stays_run : (r : ℕ) (old now next : List Event) (places : List ℕ) → IsRun r old now places → IsPrefix now next
+    → (passed r next ≡ passed r now) ⊎ (passed r next ≡ passed r old ++ places) → IsRun r old next places
+stays_run r old now next places run p (inr all) = record { more = prefix_trans old now next run.more p; taken = places; done = all; sends = inl refl }
+stays_run r old now next places run p (inl same) = record {
+  more = prefix_trans old now next run.more p;
+  taken = run.taken;
+  done = same ∙ run.done;
+  sends = by run.sends;
+} where
+  still : (place : ℕ) → slice_get (left r now) 0 ≡ Some place → slice_get (left r next) 0 ≡ Some place
+  still place first =
+      let grows = due_grows r now p.0 in
+      let whole : due r now ++ grows.0 ≡ due r next = grows.1 ∙ ap (due r) p.1 in
+      ap (λ l. slice_get (drop (length l) (due r next)) 0) same ∙ ap (λ l. slice_get (drop (length (passed r now)) l) 0) (sym whole)
+      ∙ longer (length (passed r now)) (due r now) grows.0 place first
+
+  by : (places ≡ run.taken) ⊎ ((place : ℕ) × (slice_get (left r now) 0 ≡ Some place) × (places ≡ run.taken ++ place ∷ []))
+      → (places ≡ run.taken) ⊎ ((place : ℕ) × (slice_get (left r next) 0 ≡ Some place) × (places ≡ run.taken ++ place ∷ []))
+  by (inl is) = inl is
+  by (inr (place, first, is)) = inr (place, still place first, is)

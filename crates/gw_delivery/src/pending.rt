@@ -1,9 +1,10 @@
 //! What waits for a receiver, as its forwarder takes it.
-ghost use Rattle.std.specs.Prelude.{◌≡◌, ◌+◌, ◌∷◌, [], IfOk, IfSome, IsNone, IsSome, IsTrue, IsFalse, OnOk, OnErr, Some};
+ghost use Rattle.std.specs.Prelude.{◌≡◌, ◌+◌, ◌∷◌, [], IfOk, IfSome, IsNone, IsSome, IsTrue, IsFalse, OnOk, OnErr, Some, None};
+ghost use Rattle.gw_ack.specs.declared.receipt.Ack.TheVariants.{AR};
 ghost use Rattle.gw_due.specs.Views as view;
 ghost use Rattle.gw_ledger.specs.Backlogs.{GoesOn};
 ghost use Rattle.gw_delivery.specs.Waiting as spec;
-ghost use Rattle.gw_delivery.specs.Waiting.{Closes, Gives, IsPassed, Keeps, PassesNext, PutsAside, Stays};
+ghost use Rattle.gw_delivery.specs.Waiting.{Closes, Gives, IsPassed, Keeps, Passes, PassesNext, PutsAside, Stays};
 
 use crate::fault::PageFault;
 use crate::finder::Finder;
@@ -383,12 +384,10 @@ impl<'a, J: Naming, S: Storage + Drop, V: Calls + Drop, R: Wait, L: Line, T: Tim
         Ok(place)
     }
 
-    // What is next, but can't be made, is passed as refused.
-    fn pass_unmade(&mut self) -> Result<(), OutboxFault>
-        ensures aside { OnOk result (PutsAside J.before (record { receiver = self.old.receiver; name = self.old.name.now; backlog = self.old.backlog; next = self.old.next })
-            (record { receiver = self.new.receiver; name = self.new.name.now; backlog = self.new.backlog; next = self.new.next })) }
-        ensures keeps { OnErr result (Keeps (record { receiver = self.old.receiver; name = self.old.name.now; backlog = self.old.backlog; next = self.old.next })
-            (record { receiver = self.new.receiver; name = self.new.name.now; backlog = self.new.backlog; next = self.new.next })) }
+    // The receiver passes as refused what can't be made. Its place, why it can't, and what is left then.
+    fn refused(&self) -> Result<(u64, PageFault, Backlog<J>), OutboxFault>
+        ensures { IfOk result (λ x. Passes J.before (record { receiver = self.now.receiver; name = self.now.name.now; backlog = self.now.backlog; next = self.now.next })
+            (record { receiver = self.now.receiver; name = self.now.name.now; backlog = Some x.2; next = None }) x.0 (spec.how AR)) }
     {
         let Some(aside) = &self.finder.aside else {
             return Err(OutboxFault::Record);
@@ -399,6 +398,17 @@ impl<'a, J: Naming, S: Storage + Drop, V: Calls + Drop, R: Wait, L: Line, T: Tim
         let (time, place, fault) = (self.times.time(), aside.0.place(), aside.1);
         let (rt, journal) = (self.finder.rt, self.finder.journal);
         let (_receipt, left) = passed(rt, journal, time, backlog, &aside.0, how(Ack::AR))?;
+        Ok((place, fault, left))
+    }
+
+    // What is next, but can't be made, is passed as refused.
+    fn pass_unmade(&mut self) -> Result<(), OutboxFault>
+        ensures aside { OnOk result (PutsAside J.before (record { receiver = self.old.receiver; name = self.old.name.now; backlog = self.old.backlog; next = self.old.next })
+            (record { receiver = self.new.receiver; name = self.new.name.now; backlog = self.new.backlog; next = self.new.next })) }
+        ensures keeps { OnErr result (Keeps (record { receiver = self.old.receiver; name = self.old.name.now; backlog = self.old.backlog; next = self.old.next })
+            (record { receiver = self.new.receiver; name = self.new.name.now; backlog = self.new.backlog; next = self.new.next })) }
+    {
+        let (place, fault, left) = self.refused()?;
         if !self.go_on(left) {
             return Err(OutboxFault::Disk);
         }
