@@ -2,3 +2,4 @@ pub mod Crossing
 pub mod Seeing
 pub mod Making
 pub mod Delivering
+pub mod Calling

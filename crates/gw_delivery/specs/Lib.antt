@@ -2,3 +2,4 @@ pub mod Seen
 pub mod Made
 pub mod Waiting
 pub mod Delivering
+pub mod Calls

@@ -16,7 +16,7 @@ use crate::walk::Walk;
 use gw_due::{Entry, Event, ReadFault};
 use gw_gateway::Office;
 use gw_journal::{Front, Journal, Naming, Storage};
-use gw_ledger::{Found, Scan};
+use gw_ledger::{Backlog, Found, Scan};
 use gw_log::Calls;
 use std::alloc::Global;
 use std::sync::Wait;
@@ -108,16 +108,21 @@ impl<'a, J: Naming, S: Storage + Drop, V: Calls + Drop, R: Wait> Finder<'a, J, S
         }
     }
 
-    // Begins to look for what is next, where that isn't done yet. False: the receiver has no name.
-    fn begin(&mut self, tail: Tail, receiver: u32) -> Result<bool, PageFault> {
+    // Begins to look for the first of what is left, where that isn't done yet.
+    fn begin(&mut self, tail: Tail, backlog: &Backlog<J>) -> Result<(), PageFault> {
         if self.scan.is_none() {
-            self.scan = self.journal.lock(self.rt).ledger.scan(receiver);
+            self.scan = Some(backlog.scan());
         }
-        let Some(scan) = &self.scan else {
-            return Ok(false);
-        };
-        self.walk.seek(tail, scan.at())?;
-        Ok(true)
+        match &self.scan {
+            Some(scan) => self.walk.seek(tail, scan.at()),
+            None => Err(self.walk.damaged()),
+        }
+    }
+
+    /// Nothing is looked for any more, and nothing was read.
+    pub(crate) fn forget(&mut self) {
+        self.scan = None;
+        self.walk.leave();
     }
 
     // Goes over a record that was read: whether it is what is next.
@@ -214,19 +219,17 @@ impl<'a, J: Naming, S: Storage + Drop, V: Calls + Drop, R: Wait> Finder<'a, J, S
         }
     }
 
-    /// Reads on to what is next for the receiver of this number and name. None: it doesn't count yet.
+    /// Reads on to the first that is left for the receiver of this name. None: it doesn't count yet.
     /// Where it can't be made, for a fault of its message or its plan, it is put aside.
     pub(crate) fn find(
         &mut self,
         tail: Tail,
-        receiver: u32,
+        backlog: &Backlog<J>,
         name: &'a [u8],
     ) -> Result<Option<Next<'a, J>>, PageFault>
         ensures { IfOk result (λ found. IfSome found (λ n. n.name ≡ name.now)) }
     {
-        if !self.begin(tail, receiver)? {
-            return Ok(None);
-        }
+        self.begin(tail, backlog)?;
         for _ in 0..u64::MAX {
             let Some(sight) = self.walk.next(self.rt, self.journal, tail)? else {
                 return Ok(None);

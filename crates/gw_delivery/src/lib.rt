@@ -7,6 +7,7 @@
 mod fault;
 mod finder;
 mod keeping;
+pub mod laws;
 mod made;
 mod next;
 mod pages;

@@ -1,8 +1,10 @@
 //! What waits for a receiver, as its forwarder takes it.
-ghost use Rattle.std.specs.Prelude.{◌≡◌, ◌≤◌, ◌+◌, IfOk, IfSome, IsNone, IsTrue, IsFalse, OnOk, OnErr, Some};
+ghost use Rattle.std.specs.Prelude.{◌≡◌, ◌+◌, ◌∷◌, [], IfOk, IfSome, IsNone, IsSome, IsTrue, IsFalse, OnOk, OnErr, Some, None};
+ghost use Rattle.gw_ack.specs.declared.receipt.Ack.TheVariants.{AR};
 ghost use Rattle.gw_due.specs.Views as view;
+ghost use Rattle.gw_ledger.specs.Backlogs.{GoesOn};
 ghost use Rattle.gw_delivery.specs.Waiting as spec;
-ghost use Rattle.gw_delivery.specs.Waiting.{IsGiven, IsPassed, Passes, Stays};
+ghost use Rattle.gw_delivery.specs.Waiting.{Closes, Gives, IsPassed, Keeps, Passes, PassesNext, PutsAside, Stays};
 
 use crate::fault::PageFault;
 use crate::finder::Finder;
@@ -14,7 +16,7 @@ use gw_due::How;
 use gw_forward::{Outbox, OutboxFault};
 use gw_gateway::{Office, Times};
 use gw_journal::{Journal, JournalFault, Naming, Receipt, Storage};
-use gw_ledger::{Found, LedgerFault};
+use gw_ledger::{Backlog, Found, LedgerFault};
 use gw_log::Calls;
 use std::alloc::Global;
 use std::cell::Cell;
@@ -61,8 +63,8 @@ pub struct Pending<'a, J: Naming, S: Storage + Drop, V: Calls + Drop, R: Wait, L
     times: &'a T,
     receiver: u32,
     name: &'a [u8],
-    // where what is left for it begins
-    from: Option<u64>,
+    // what is left for it, as it was seen last
+    backlog: Option<Backlog<J>>,
     next: Option<Next<'a, J>>,
     // whether bytes of what is next may have been sent
     sent: &'a Cell<bool>,
@@ -70,10 +72,11 @@ pub struct Pending<'a, J: Naming, S: Storage + Drop, V: Calls + Drop, R: Wait, L
     count: u64,
 }
 
-/// How a receiver stands in the log: how many are left for it, and up to where the log counts.
+/// How a receiver stands in the log: how many are left for it, from where on, and up to where the log counts.
 #[derive(Clone, Copy)]
 struct Standing {
     left: u64,
+    from: u64,
     tail: Tail,
 }
 
@@ -87,6 +90,7 @@ fn standing_of<J: Naming, S: Storage + Drop>(
         if receiver.number() == number {
             return Some(Standing {
                 left: receiver.left(),
+                from: receiver.from(),
                 tail: Tail { segment, end },
             });
         }
@@ -94,35 +98,27 @@ fn standing_of<J: Naming, S: Storage + Drop>(
     None
 }
 
-// Has the receiver pass what was found, and waits until that is on the disk.
+// Has the receiver pass what was found, where it is the first that is left, and waits until that is on the disk. What is left then.
 fn passed<J: Naming, S: Storage + Drop, R: Wait>(
     rt: &R,
     journal: &Journal<J, Office<J, S>>,
     time: u64,
+    backlog: &Backlog<J>,
     found: &Found<J>,
     how: How<'_>,
-) -> Result<Receipt<J>, OutboxFault>
-    ensures { IfOk result (λ r. IsPassed J.before found.now.receiver found.now.place (view.how how.entry) r.history) }
+) -> Result<(Receipt<J>, Backlog<J>), OutboxFault>
+    ensures stored { IfOk result (λ x. IsPassed J.before backlog.now.receiver found.now.place (view.how how.entry) x.0.history) }
+    ensures on { IfOk result (λ x. GoesOn J.before backlog.now x.1 (found.now.place ∷ [])) }
 {
-    let put = journal.lock(rt).ledger.pass(time, found, how);
-    let ticket = match put {
-        Ok(ticket) => ticket,
+    let put = journal.lock(rt).ledger.pass_first(time, backlog, found, how);
+    let (ticket, left) = match put {
+        Ok(put) => put,
         Err(LedgerFault::Journal(JournalFault::Memory)) => return Err(OutboxFault::Memory),
         Err(_) => return Err(OutboxFault::Disk),
     };
     match journal.settle(rt, &ticket) {
-        Ok(receipt) => Ok(receipt),
+        Ok(receipt) => Ok((receipt, left)),
         Err(_) => Err(OutboxFault::Disk),
-    }
-}
-
-// Whether the place isn't before the other, where there is one.
-fn is_behind(place: u64, other: Option<u64>) -> bool
-    ensures { IsTrue result → IfSome other (λ from. from ≤ place) }
-{
-    match other {
-        Some(from) => from <= place,
-        None => true,
     }
 }
 
@@ -171,7 +167,7 @@ impl<'a, J: Naming, S: Storage + Drop, V: Calls + Drop, R: Wait, L: Line, T: Tim
             times,
             receiver,
             name,
-            from: None,
+            backlog: None,
             next: None,
             sent,
             tries: 0,
@@ -184,51 +180,107 @@ impl<'a, J: Naming, S: Storage + Drop, V: Calls + Drop, R: Wait, L: Line, T: Tim
         standing_of(&office, self.receiver)
     }
 
-    // Keeps what was found, where it is this receiver's, from where what is left for it begins.
+    /// Looks up what is left for the receiver, where that wasn't done yet. False: it can't be told, since there was a fault.
+    pub fn begin(&mut self) -> bool
+        ensures count { self.new.count ≡ self.old.count }
+        ensures next { self.new.next ≡ self.old.next }
+        ensures some { IsTrue result → IsSome self.new.backlog }
+        ensures of { IsTrue result → IfSome self.new.backlog (λ b. b.receiver ≡ self.new.receiver) }
+        ensures same { IfSome self.old.backlog (λ was. self.new.backlog ≡ Some was) }
+        ensures receiver { self.new.receiver ≡ self.old.receiver }
+        ensures name { self.new.name.now ≡ self.old.name.now }
+    {
+        if let Some(backlog) = &self.backlog {
+            return backlog.receiver() == self.receiver;
+        }
+        let found = self.finder.journal.lock(self.finder.rt).ledger.backlog(self.receiver);
+        let Some(backlog) = found else {
+            return false;
+        };
+        self.backlog = Some(backlog);
+        true
+    }
+
+    // Nothing is left: what will be begins behind all that was put.
+    fn rest(&mut self)
+        ensures count { self.new.count ≡ self.old.count }
+        ensures stays { Stays J.before (record { receiver = self.old.receiver; name = self.old.name.now; backlog = self.old.backlog; next = self.old.next })
+            (record { receiver = self.new.receiver; name = self.new.name.now; backlog = self.new.backlog; next = self.new.next }) }
+    {
+        let Some(backlog) = &self.backlog else {
+            return;
+        };
+        let found = self.finder.journal.lock(self.finder.rt).ledger.at_rest(backlog);
+        if let Some(now) = found {
+            self.backlog = Some(now);
+            self.finder.forget();
+        }
+    }
+
+    // Keeps what was found, where it is this receiver's.
     fn keep(&mut self, next: Next<'a, J>) -> bool
         ensures count { self.new.count ≡ self.old.count }
-        ensures stays { Stays (record { receiver = self.old.receiver; name = self.old.name.now; from = self.old.from; next = self.old.next })
-            (record { receiver = self.new.receiver; name = self.new.name.now; from = self.new.from; next = self.new.next }) }
+        ensures keeps { Keeps (record { receiver = self.old.receiver; name = self.old.name.now; backlog = self.old.backlog; next = self.old.next })
+            (record { receiver = self.new.receiver; name = self.new.name.now; backlog = self.new.backlog; next = self.new.next }) }
     {
         if next.found().receiver() != self.receiver {
-            return false;
-        }
-        if !is_behind(next.found().from(), self.from) {
             return false;
         }
         self.next = Some(next);
         true
     }
 
-    // What the receiver is sent of what is next. (That it is this receiver's is tested once more, since its type says nothing of it.)
-    fn given(&self) -> Result<Option<Vec<u8>>, OutboxFault>
-        ensures { IfOk result (λ found. IfSome found (λ bytes. IsGiven J.before
-            (record { receiver = self.now.receiver; name = self.now.name.now; from = self.now.from; next = self.now.next }) bytes.items)) }
+    // What the receiver is sent of what is next, where it is the first that is left now, and nothing was passed since that was seen last.
+    // None: there is nothing next. The files from where what is left began are gone: it is to be looked up anew.
+    fn given(&mut self) -> Result<Option<Vec<u8>>, OutboxFault>
+        ensures count { self.new.count ≡ self.old.count }
+        ensures given { IfOk result (λ found. IfSome found (λ bytes. Gives J.before
+            (record { receiver = self.old.receiver; name = self.old.name.now; backlog = self.old.backlog; next = self.old.next })
+            (record { receiver = self.new.receiver; name = self.new.name.now; backlog = self.new.backlog; next = self.new.next }) bytes.items)) }
+        ensures closed { IfOk result (λ found. IsNone found → Closes J.before
+            (record { receiver = self.old.receiver; name = self.old.name.now; backlog = self.old.backlog; next = self.old.next })
+            (record { receiver = self.new.receiver; name = self.new.name.now; backlog = self.new.backlog; next = self.new.next })) }
+        ensures broken { OnErr result (Keeps (record { receiver = self.old.receiver; name = self.old.name.now; backlog = self.old.backlog; next = self.old.next })
+            (record { receiver = self.new.receiver; name = self.new.name.now; backlog = self.new.backlog; next = self.new.next })) }
     {
         let Some(next) = &self.next else {
-            return Err(OutboxFault::Record);
+            self.backlog = None;
+            return Ok(None);
         };
-        // (called for its clause: it is the next)
-        let _front = next.front();
-        if next.found().receiver() != self.receiver {
+        let Some(backlog) = &self.backlog else {
+            return Err(OutboxFault::Disk);
+        };
+        if backlog.receiver() != self.receiver || next.name() != self.name {
             return Err(OutboxFault::Disk);
         }
-        if !is_behind(next.found().from(), self.from) {
+        let seen = self
+            .finder
+            .journal
+            .lock(self.finder.rt)
+            .ledger
+            .begins_with(backlog, next.found());
+        let Some(now) = seen else {
+            return Err(OutboxFault::Disk);
+        };
+        if !next.front().begins(now.front()) {
             return Err(OutboxFault::Disk);
         }
-        if next.name() == self.name {
-            return Ok(Some(next.bytes(self.finder.alloc)?));
-        }
-        Err(OutboxFault::Disk)
+        let bytes = next.bytes(self.finder.alloc)?;
+        self.backlog = Some(now);
+        Ok(Some(bytes))
     }
 
-    // Reads on to what is next. False: it doesn't count yet.
-    fn read_on(&mut self, tail: Tail) -> Result<bool, OutboxFault>
+    // Reads on to what is next. False: it doesn't count yet. Without a next: it can't be read on from where what is left began.
+    fn read_on(&mut self, standing: Standing) -> Result<bool, OutboxFault>
         ensures count { self.new.count ≡ self.old.count }
-        ensures stays { Stays (record { receiver = self.old.receiver; name = self.old.name.now; from = self.old.from; next = self.old.next })
-            (record { receiver = self.new.receiver; name = self.new.name.now; from = self.new.from; next = self.new.next }) }
+        ensures keeps { Keeps (record { receiver = self.old.receiver; name = self.old.name.now; backlog = self.old.backlog; next = self.old.next })
+            (record { receiver = self.new.receiver; name = self.new.name.now; backlog = self.new.backlog; next = self.new.next }) }
     {
-        match self.finder.find(tail, self.receiver, self.name) {
+        let Some(backlog) = &self.backlog else {
+            return Err(OutboxFault::Disk);
+        };
+        let from = backlog.from();
+        match self.finder.find(standing.tail, backlog, self.name) {
             Ok(Some(next)) => {
                 if self.keep(next) {
                     Ok(true)
@@ -239,6 +291,10 @@ impl<'a, J: Naming, S: Storage + Drop, V: Calls + Drop, R: Wait, L: Line, T: Tim
             Ok(None) => Ok(false),
             Err(PageFault::Memory) => Err(OutboxFault::Memory),
             Err(PageFault::Damaged { segment, at }) => {
+                if from < standing.from {
+                    self.finder.forget();
+                    return Ok(true);
+                }
                 self.line.failed(PageFault::Damaged { segment, at });
                 Err(OutboxFault::Disk)
             }
@@ -246,12 +302,15 @@ impl<'a, J: Naming, S: Storage + Drop, V: Calls + Drop, R: Wait, L: Line, T: Tim
         }
     }
 
-    // Whether what is next is known.
+    // Whether what is next is known, or can't be told any more. Nothing is looked for while the line is held back.
     fn is_ready(&mut self) -> Result<bool, OutboxFault>
         ensures count { self.new.count ≡ self.old.count }
-        ensures stays { Stays (record { receiver = self.old.receiver; name = self.old.name.now; from = self.old.from; next = self.old.next })
-            (record { receiver = self.new.receiver; name = self.new.name.now; from = self.new.from; next = self.new.next }) }
+        ensures stays { Stays J.before (record { receiver = self.old.receiver; name = self.old.name.now; backlog = self.old.backlog; next = self.old.next })
+            (record { receiver = self.new.receiver; name = self.new.name.now; backlog = self.new.backlog; next = self.new.next }) }
     {
+        if self.line.is_held() {
+            return Ok(false);
+        }
         if self.next.is_some() {
             return Ok(true);
         }
@@ -262,25 +321,29 @@ impl<'a, J: Naming, S: Storage + Drop, V: Calls + Drop, R: Wait, L: Line, T: Tim
             return Ok(false);
         };
         self.line.stands(standing.left, false);
+        if !self.begin() {
+            return Err(OutboxFault::Disk);
+        }
         if standing.left == 0 {
+            self.rest();
             return Ok(false);
         }
-        self.read_on(standing.tail)
+        self.read_on(standing)
     }
 
-    // Goes on behind this place, which was passed. False: no more can be counted.
-    fn go_on(&mut self, place: u64) -> bool
-        ensures gone { IsTrue result → IsNone self.new.next }
-        ensures from { IsTrue result → self.new.from ≡ Some (place + 1) }
-        ensures receiver { self.new.receiver ≡ self.old.receiver }
-        ensures name { self.new.name ≡ self.old.name }
+    // Goes on behind what was passed. False: no more can be counted.
+    fn go_on(&mut self, left: Backlog<J>) -> bool
+        ensures backlog { IsTrue result → self.new.backlog ≡ Some left }
         ensures counted { IsTrue result → self.new.count ≡ self.old.count + 1 }
         ensures uncounted { IsFalse result → self.new.count ≡ self.old.count }
+        ensures same { IsFalse result → self.new.backlog ≡ self.old.backlog }
+        ensures receiver { self.new.receiver ≡ self.old.receiver }
+        ensures name { self.new.name ≡ self.old.name }
     {
-        if place == u64::MAX || self.count == u64::MAX {
+        if self.count == u64::MAX {
             return false;
         }
-        self.from = Some(place + 1);
+        self.backlog = Some(left);
         self.next = None;
         self.count += 1;
         self.finder.aside = None;
@@ -298,33 +361,55 @@ impl<'a, J: Naming, S: Storage + Drop, V: Calls + Drop, R: Wait, L: Line, T: Tim
 
     // The receiver passes what is next. Its place.
     fn pass(&mut self, how: How<'_>) -> Result<u64, OutboxFault>
-        ensures passes { OnOk result (Passes J.before (record { receiver = self.old.receiver; name = self.old.name.now; from = self.old.from; next = self.old.next })
-            (record { receiver = self.new.receiver; name = self.new.name.now; from = self.new.from; next = self.new.next }) (view.how how.entry)) }
+        ensures passes { OnOk result (PassesNext J.before (record { receiver = self.old.receiver; name = self.old.name.now; backlog = self.old.backlog; next = self.old.next })
+            (record { receiver = self.new.receiver; name = self.new.name.now; backlog = self.new.backlog; next = self.new.next }) (view.how how.entry)) }
+        ensures keeps { OnErr result (Keeps (record { receiver = self.old.receiver; name = self.old.name.now; backlog = self.old.backlog; next = self.old.next })
+            (record { receiver = self.new.receiver; name = self.new.name.now; backlog = self.new.backlog; next = self.new.next })) }
         ensures counted { OnOk result (self.new.count ≡ self.old.count + 1) }
         ensures uncounted { OnErr result (self.new.count ≡ self.old.count) }
     {
         let Some(next) = &self.next else {
             return Err(OutboxFault::Record);
         };
+        let Some(backlog) = &self.backlog else {
+            return Err(OutboxFault::Record);
+        };
         let (time, place) = (self.times.time(), next.found().place());
         let (rt, journal) = (self.finder.rt, self.finder.journal);
-        let _receipt = passed(rt, journal, time, next.found(), how)?;
-        if !self.go_on(place) {
+        let (_receipt, left) = passed(rt, journal, time, backlog, next.found(), how)?;
+        if !self.go_on(left) {
             return Err(OutboxFault::Disk);
         }
         self.show();
         Ok(place)
     }
 
-    // What is next, but can't be made, is passed as refused.
-    fn pass_unmade(&mut self) -> Result<(), OutboxFault> {
-        let Some((found, fault)) = &self.finder.aside else {
+    // The receiver passes as refused what can't be made. Its place, why it can't, and what is left then.
+    fn refused(&self) -> Result<(u64, PageFault, Backlog<J>), OutboxFault>
+        ensures { IfOk result (λ x. Passes J.before (record { receiver = self.now.receiver; name = self.now.name.now; backlog = self.now.backlog; next = self.now.next })
+            (record { receiver = self.now.receiver; name = self.now.name.now; backlog = Some x.2; next = None }) x.0 (spec.how AR)) }
+    {
+        let Some(aside) = &self.finder.aside else {
             return Err(OutboxFault::Record);
         };
-        let (time, place, fault) = (self.times.time(), found.place(), *fault);
+        let Some(backlog) = &self.backlog else {
+            return Err(OutboxFault::Record);
+        };
+        let (time, place, fault) = (self.times.time(), aside.0.place(), aside.1);
         let (rt, journal) = (self.finder.rt, self.finder.journal);
-        let _receipt = passed(rt, journal, time, found, how(Ack::AR))?;
-        if !self.go_on(place) {
+        let (_receipt, left) = passed(rt, journal, time, backlog, &aside.0, how(Ack::AR))?;
+        Ok((place, fault, left))
+    }
+
+    // What is next, but can't be made, is passed as refused.
+    fn pass_unmade(&mut self) -> Result<(), OutboxFault>
+        ensures aside { OnOk result (PutsAside J.before (record { receiver = self.old.receiver; name = self.old.name.now; backlog = self.old.backlog; next = self.old.next })
+            (record { receiver = self.new.receiver; name = self.new.name.now; backlog = self.new.backlog; next = self.new.next })) }
+        ensures keeps { OnErr result (Keeps (record { receiver = self.old.receiver; name = self.old.name.now; backlog = self.old.backlog; next = self.old.next })
+            (record { receiver = self.new.receiver; name = self.new.name.now; backlog = self.new.backlog; next = self.new.next })) }
+    {
+        let (place, fault, left) = self.refused()?;
+        if !self.go_on(left) {
             return Err(OutboxFault::Disk);
         }
         self.show();
@@ -333,7 +418,12 @@ impl<'a, J: Naming, S: Storage + Drop, V: Calls + Drop, R: Wait, L: Line, T: Tim
     }
 
     /// What is next can't be made, or can't be sent: it is passed as refused.
-    pub fn put_aside(&mut self) -> Result<(), OutboxFault> {
+    pub fn put_aside(&mut self) -> Result<(), OutboxFault>
+        ensures aside { OnOk result (PutsAside J.before (record { receiver = self.old.receiver; name = self.old.name.now; backlog = self.old.backlog; next = self.old.next })
+            (record { receiver = self.new.receiver; name = self.new.name.now; backlog = self.new.backlog; next = self.new.next })) }
+        ensures keeps { OnErr result (Keeps (record { receiver = self.old.receiver; name = self.old.name.now; backlog = self.old.backlog; next = self.old.next })
+            (record { receiver = self.new.receiver; name = self.new.name.now; backlog = self.new.backlog; next = self.new.next })) }
+    {
         if self.next.is_none() {
             return self.pass_unmade();
         }
@@ -345,23 +435,24 @@ impl<'a, J: Naming, S: Storage + Drop, V: Calls + Drop, R: Wait, L: Line, T: Tim
 
 impl<J: Naming, S: Storage + Drop, V: Calls + Drop, R: Wait, L: Line, T: Times> Outbox
     for Pending<'_, J, S, V, R, L, T> {
-    ghost use Rattle.std.specs.Prelude.{⊤};
-    ghost use Rattle.gw_delivery.specs.Waiting.{Gives, Settles, Stays};
+    ghost use Rattle.gw_delivery.specs.Waiting.{Closes, Gives, Keeps, Settles, Stays};
 
     ghost count = { λ p. p.count };
 
-    ghost gives = { λ old new bytes. Gives J.before (record { receiver = old.receiver; name = old.name.now; from = old.from; next = old.next })
-        (record { receiver = new.receiver; name = new.name.now; from = new.from; next = new.next }) bytes };
+    ghost gives = { λ old new bytes. Gives J.before (record { receiver = old.receiver; name = old.name.now; backlog = old.backlog; next = old.next })
+        (record { receiver = new.receiver; name = new.name.now; backlog = new.backlog; next = new.next }) bytes };
 
-    ghost closes = { λ old new. Stays (record { receiver = old.receiver; name = old.name.now; from = old.from; next = old.next })
-        (record { receiver = new.receiver; name = new.name.now; from = new.from; next = new.next }) };
+    ghost closes = { λ old new. Closes J.before (record { receiver = old.receiver; name = old.name.now; backlog = old.backlog; next = old.next })
+        (record { receiver = new.receiver; name = new.name.now; backlog = new.backlog; next = new.next }) };
 
-    ghost breaks = { λ old new fault. ⊤ };
+    ghost breaks = { λ old new fault. Stays J.before (record { receiver = old.receiver; name = old.name.now; backlog = old.backlog; next = old.next })
+        (record { receiver = new.receiver; name = new.name.now; backlog = new.backlog; next = new.next }) };
 
-    ghost settles = { λ old new ack taken. Settles J.before (record { receiver = old.receiver; name = old.name.now; from = old.from; next = old.next })
-        (record { receiver = new.receiver; name = new.name.now; from = new.from; next = new.next }) ack taken };
+    ghost settles = { λ old new ack taken. Settles J.before (record { receiver = old.receiver; name = old.name.now; backlog = old.backlog; next = old.next })
+        (record { receiver = new.receiver; name = new.name.now; backlog = new.backlog; next = new.next }) ack taken };
 
-    ghost fails = { λ old new ack fault. ⊤ };
+    ghost fails = { λ old new ack fault. Keeps (record { receiver = old.receiver; name = old.name.now; backlog = old.backlog; next = old.next })
+        (record { receiver = new.receiver; name = new.name.now; backlog = new.backlog; next = new.next }) };
 
     fn count(&self) -> u64 {
         self.count
@@ -372,7 +463,7 @@ impl<J: Naming, S: Storage + Drop, V: Calls + Drop, R: Wait, L: Line, T: Times> 
             if self.line.has_ended() {
                 return Ok(None);
             }
-            if !self.line.is_held() && self.is_ready()? {
+            if self.is_ready()? {
                 return self.given();
             }
             self.line.wait();

@@ -12,6 +12,9 @@ use gw_log::Calls;
 use std::alloc::Global;
 use std::sync::Wait;
 
+/// Of so many records each is read, before the file of a place is looked for.
+const FAR: u64 = 10_000;
+
 /// What is read of a log: from a file's first record on, so that the plan in force is known. Each record is noted in its journal.
 #[derive(Drop)]
 pub(crate) struct Walk<J: Naming, V: Calls + Drop> {
@@ -40,9 +43,16 @@ impl<J: Naming, V: Calls + Drop> Walk<J, V> {
         self.pages.fault()
     }
 
-    // Whether it can be read on from here to this place.
+    /// Before any file again.
+    pub(crate) fn leave(&mut self) {
+        self.pages.leave();
+        self.under = None;
+    }
+
+    // Whether it can be read on from here to this place, which isn't far.
     fn leads_to(&self, place: u64) -> bool {
-        if self.pages.segment() == 0 || self.pages.place() > place {
+        let here = self.pages.place();
+        if self.pages.segment() == 0 || here > place || place - here > FAR {
             return false;
         }
         match &self.under {
