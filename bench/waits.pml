@@ -12,8 +12,8 @@
  * the journal's and takes a line's, and nobody takes them the other way round.
  *
  * Time limits wake nobody here, but for a forwarder that sleeps when the gateway is stopped: `Hub::stop` rings no bell, and its half second ends. In the
- * program that half second, the reads of sockets and the pauses wake threads more often. It leaves out what is looked at by time alone: `hold`, `go`, a
- * disk without room, turns for long messages, the page. It also leaves out spurious wake-ups, lack of memory, records that nobody waits for (names, and the
+ * program that half second, the reads of sockets and the pauses wake threads more often. It leaves out `hold`, `go` and `resend`, and what is looked at by time
+ * alone: a disk without room, turns for long messages, the page. It also leaves out spurious wake-ups, lack of memory, records that nobody waits for (names, and the
  * plan that a file begins with), and why a message is refused: of its plan (`Stale` or not) or of its content.
  */
 #ifndef FIRST
