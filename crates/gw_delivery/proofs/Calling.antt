@@ -12,7 +12,7 @@ use Rattle.gw_due.proofs.Growing.{due_grows, ordered}
 use Rattle.gw_journal.specs.declared.event.Event as happened
 use Rattle.gw_journal.specs.Logs.{AreFaithful, log_in}
 use Rattle.gw_journal.proofs.Logging.{log_later}
-use Rattle.gw_ledger.specs.Backlogs.{Between, HasPassed}
+use Rattle.gw_ledger.specs.Backlogs.{Between}
 use Rattle.gw_ledger.specs.Ledgers.{Spells, events_of}
 use Rattle.gw_ledger.proofs.Ledging.{faithful_part, front_spelled, one_reading}
 use Rattle.gw_ledger.proofs.Remaining.{parts, prefix_trans}

@@ -5,18 +5,15 @@ use Rattle.std.specs.Io.KnownBytes.{Appends}
 use Rattle.std.specs.Prelude.{IsNone, IsSome, IfSome, IfOk, IfErr, OnOk, OnErr, Result, Ok, Err}
 use mathlib.Core.List.{IsPrefix}
 use Rattle.gw_ack.specs.declared.receipt.Ack.{Ack}
-use Rattle.gw_due.specs.Events.{Event}
 use Rattle.gw_due.specs.Due.{passed}
-use Rattle.gw_due.specs.Runs.{IsRun}
 use Rattle.gw_mllp.specs.Stream.{block}
 use Rattle.gw_stream.specs.Sent as device
 use Rattle.gw_forward.specs.declared.outbox.Outbox as outbox
 use Rattle.gw_forward.specs.declared.fault.ForwardFault.{ForwardFault}
 use Rattle.gw_forward.specs.declared.fault.OutboxFault.{OutboxFault}
 use Rattle.gw_forward.specs.declared.forwarding.Ended.{Ended}
-use Rattle.gw_forward.specs.Forwards.{Breaks, Exchanged, Finishes, Forwards, Sending, Sends, none_left, none_sent, not_given, not_made, not_settled, sent_last, sent_one, unsendable, unsent}
-use Rattle.gw_journal.specs.declared.event.Event as happened
-use Rattle.gw_ledger.specs.Backlogs.{BacklogState, BeginsWith, Between, GoesOn, HasPassed, IsFirstLeft}
+use Rattle.gw_forward.specs.Forwards.{Breaks, Finishes, Forwards, Sends, none_left, none_sent, not_given, not_made, not_settled, sent_last, sent_one, unsendable, unsent}
+use Rattle.gw_ledger.specs.Backlogs.{BacklogState, BeginsWith, GoesOn, HasPassed, IsFirstLeft}
 use Rattle.gw_ledger.specs.Finding.{InJournal}
 use Rattle.gw_ledger.specs.Ledgers.{events_of}
 use Rattle.gw_ledger.proofs.Remaining.{goes_same, goes_trans, parts}
@@ -24,7 +21,7 @@ use Rattle.gw_delivery.specs.Delivering.{Delivers, EndsWith, HasDelivered, HasSt
 use Rattle.gw_delivery.specs.Made.{IsMadeAt}
 use Rattle.gw_delivery.proofs.Making.{made_stays}
 use Rattle.gw_delivery.proofs.Seeing.{later as seen_later}
-use Rattle.gw_delivery.specs.Waiting.{Closes, Follows, Gives, IsHanded, IsNextFor, IsPassed, Keeps, NextState, Passes, PassesNext, Settles, Stays, WaitingState, how}
+use Rattle.gw_delivery.specs.Waiting.{Closes, Follows, Gives, IsHanded, IsNextFor, IsPassed, Keeps, NextState, PassesNext, Settles, Stays, WaitingState, how}
 
 -- ---- what is left, as it goes on
 
@@ -66,9 +63,6 @@ closes_behind before a b c f g = record { receiver = g.receiver ∙ f.receiver; 
   by : IsNone c.backlog ⊎ Follows before b.backlog c.backlog → IsNone c.backlog ⊎ Follows before a.backlog c.backlog
   by (inl none) = inl none
   by (inr follows) = inr (follows_trans before a.backlog b.backlog c.backlog f.backlog follows)
-
-pub stays_closes : (before : List (List ℕ)) (a b : WaitingState) → Stays before a b → Closes before a b
-stays_closes before a b f = record { receiver = f.receiver; name = f.name; backlog = inr f.backlog }
 
 -- what is left is the same
 pub kept_stays : (before : List (List ℕ)) (a b : WaitingState) → b.receiver ≡ a.receiver → b.name ≡ a.name → b.backlog ≡ a.backlog → Stays before a b

@@ -30,11 +30,6 @@ later P before old new stays holds p faithful entries spells =
     let here = holds (faithful_part before old new p faithful) cut.front cut.spells in
     subst P (sym whole) (stays (events_of cut.front) (events_of cut.rest) here)
 
--- two facts of one journal
-pub both : (P Q R : List Event → Type 0) (before : List (List ℕ)) (history : List happened.Event)
-    → ((log : List Event) → P log → Q log → R log) → InJournal P before history → InJournal Q before history → InJournal R before history
-both P Q R before history make p q faithful entries spells = make (events_of entries) (p faithful entries spells) (q faithful entries spells)
-
 pub event_stays : (place : ℕ) (e : Event) (log more : List Event) → IsEventAt place e log → IsEventAt place e (log ++ more)
 event_stays place e log more is = get_front log more place e is
 

@@ -3,7 +3,7 @@ use Rattle.std.proofs.Common.{◌≡◌, ℕ, ◌+◌, ◌-◌, ◌≤◌, ◌<�
 use Rattle.std.specs.Prelude.{◌&&◌, ◌||◌, nat_le, IfSome}
 use Rattle.std.specs.List.{AllByRecursion}
 use Rattle.std.proofs.lemmas.Bool.{and_parts, eqb-true, leb-true}
-use Rattle.std.proofs.lemmas.List.{append-nil, map-append, length-drop, drop-append-le, drop-drop, take-append-drop, length-take-le, drop_all, nil_from_length}
+use Rattle.std.proofs.lemmas.List.{append-nil, map-append, length-drop, drop-append-le, drop-drop, take-append-drop, length-take-le, nil_from_length}
 use mathlib.Core.List.{IsPrefix}
 use Rattle.gw_due.specs.Events.{Event, How, Passed}
 use Rattle.gw_due.specs.Due.{Name, due, due_from, left, names, passed, passed_by}
@@ -74,9 +74,6 @@ none_behind r a b log order within none =
     no_more p.front (due_from r b (drop b log)) (sym p.is ∙ none)
 
 -- ---- by a state
-
-none_past : (r n : ℕ) (log : List Event) → n ≡ length log → due_from r n (drop n log) ≡ []
-none_past r n log is = ap (due_from r n) (drop_all n log (omega (arith, is)))
 
 all_due : (r : ℕ) (log : List Event) → IsPrefix (passed r log) (due r log) → passed r log ++ left r log ≡ due r log
 all_due r log p = ap (λ l. passed r log ++ drop (length (passed r log)) l) (sym p.1) ∙ ap (λ l. passed r log ++ l) (drop_front (passed r log) p.0) ∙ p.1

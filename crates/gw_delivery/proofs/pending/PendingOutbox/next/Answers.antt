@@ -1,6 +1,6 @@
 use Rattle.std.proofs.Common.{◌∙◌, refl}
 use Rattle.gw_delivery.specs.Waiting.{Stays, WaitingState}
-use Rattle.gw_delivery.proofs.Delivering.{any_err, broken_behind, closed_behind, given_behind, kept_stays, stays_closes, stays_trans}
+use Rattle.gw_delivery.proofs.Delivering.{any_err, broken_behind, closed_behind, given_behind, kept_stays, stays_trans}
 use Rattle.gw_delivery.proofs.pending.PendingOutbox.next.Goals as goal
 
 pub loop-init : goal.loop-init
