@@ -4,7 +4,7 @@ use denote.Builtin.{u64}
 use denote.Exit.{no}
 use denote.Param.{arg, param}
 use denote.Ref.{NamedLft, ShrRef}
-use denote.Param.Send.{IsSend, IsSync, arg_send, param_send, shr_send, shr_sync, sendable}
+use denote.Param.Send.{IsSend, IsSync, arg_send, arg_sync, param_send, param_sync, shr_send, shr_sync, sendable, view_send, view_sync, whole-keyless}
 use denote.Param.SendFields.{as_row_send, as_row_sync, declared_send, declared_sync}
 use denote.Struct.Field.{row_field, shr_ref_field}
 use denote.Struct.Tuple.{TupleAt, type_at}
@@ -12,6 +12,13 @@ use base.Fml.{Lft}
 use mathlib.Core.List.{[], ◌∷◌}
 use mir.Syntax.{Lifetime, Sym, Ty}
 use Rattle.std.proofs.Crossing.{crosses}
+use Rattle.std.specs.contracts.marker.PhantomData as PhantomData
+use Rattle.gw_folder.proofs.folder.RealFolder.TheSendSync as real
+use Rattle.gw_folder.specs.contracts.folder.RealFolder as RealFolder
+use Rattle.gw_log.specs.contracts.history.History as History
+use Rattle.gw_log.specs.contracts.recorded.Recorded as Recorded
+use Rattle.gw_log.specs.contracts.recorded.Recorded.TheInside as Inside
+use Rattle.gw_log.specs.declared.recorded.Start as start
 use Rattle.std.specs.declared.sync.ledger.Ledger as ledger
 use Rattle.std.proofs.sync.ledger.Share.TheSendSync as share
 use Rattle.std.specs.contracts.net.SocketAddr as SocketAddr
@@ -190,6 +197,49 @@ Hub-sync a J S R j s h r = declared_sync (Hub.the_type a J S R j s) (
 pub Hub-shared : (ℓ : Lifetime) (κ : Lft) (a : NamedLft) (J S R : RattleType) (j : naming.Ghosts J.Denot) (s : storage.Ghosts S.Denot)
     → IsSend S → IsSync R → IsSend (ShrRef ℓ κ (Hub.the_row a J S R j s))
 Hub-shared ℓ κ a J S R j s h r = shr_send ℓ κ (Hub.the_row a J S R j s) (Hub-sync a J S R j s h r)
+
+-- ---- the disk of a gateway's log
+
+-- a real folder, by any runtime that threads share
+pub RealFolder-send : (a : NamedLft) (R : RattleType) → IsSync R → IsSend (RealFolder.the_row a R)
+RealFolder-send a R s = search (real.the_send, s)
+
+pub RealFolder-sync : (a : NamedLft) (R : RattleType) → IsSync R → IsSync (RealFolder.the_row a R)
+RealFolder-sync a R s = search (real.the_sync, s)
+
+-- ---- a folder with its history
+
+History-send : IsSend (History.the_field).row
+History-send = search (crosses, sendable) depth 60 fits 50000
+
+History-sync : IsSync (History.the_field).row
+History-sync = record { shared = λ x b o κ q. whole-keyless _ _ (λ y vs. History-send.owned y vs) q x b o }
+
+Phantom-send : (S : RattleType) → IsSend (PhantomData.the_field S).row
+Phantom-send S = search (crosses, sendable) depth 60 fits 50000
+
+Phantom-sync : (S : RattleType) → IsSync (PhantomData.the_field S).row
+Phantom-sync S = search (crosses, sendable) depth 60 fits 50000
+
+Inside-send : (C S : RattleType) (g : start.Ghosts S.Denot) → IsSend C → IsSend (Inside.the_row C S g)
+Inside-send C S g s = declared_send (Inside.the_type C S g)
+    (as_row_send (row_field C) s, (as_row_send History.the_field History-send, (as_row_send (PhantomData.the_field S) (Phantom-send S), tt)))
+
+Inside-sync : (C S : RattleType) (g : start.Ghosts S.Denot) → IsSync C → IsSync (Inside.the_row C S g)
+Inside-sync C S g s = declared_sync (Inside.the_type C S g)
+    (as_row_sync (row_field C) s, (as_row_sync History.the_field History-sync, (as_row_sync (PhantomData.the_field S) (Phantom-sync S), tt)))
+
+pub Recorded-send : (C S : RattleType) (g : start.Ghosts S.Denot) → IsSend C → IsSend (Recorded.the_row C S g)
+Recorded-send C S g s = view_send (Inside.the_row C S g) _ _ _ _ (Inside-send C S g s)
+
+pub Recorded-sync : (C S : RattleType) (g : start.Ghosts S.Denot) → IsSync C → IsSync (Recorded.the_row C S g)
+Recorded-sync C S g s = view_sync (Inside.the_row C S g) _ _ _ _ (Inside-sync C S g s)
+
+pub given-send : (δ : Ty) (A : RattleType) → IsSend A → IsSend (param 1 (arg δ no A))
+given-send δ A a = param_send 1 (arg δ no A) (arg_send δ no A a)
+
+pub given-sync : (δ : Ty) (A : RattleType) → IsSync A → IsSync (param 1 (arg δ no A))
+given-sync δ A a = param_sync 1 (arg δ no A) (arg_sync δ no A a)
 
 -- ---- a closure may be sent where what it captures may
 

@@ -24,8 +24,9 @@ use clap::ArgMatches;
 use gw_ack::Stamp;
 use gw_folder::RealFolder;
 use gw_gateway::{ByPlans, Office, PutFault};
-use gw_journal::{Journal, Naming, Opened, Storage};
-use gw_ledger::Ledger;
+use gw_journal::{Journal, Naming, Opened, Storage, Stored};
+use gw_ledger::{Checkpoints, Ledger};
+use gw_log::Disk;
 use gw_opening::{Begun, Found};
 use gw_plan::Plan;
 use gw_stream::RunFault;
@@ -208,7 +209,41 @@ fn begin<'f, 'a, J: Naming, S: Storage + Drop, R: Runtime + Wait>(
     Ok(hub)
 }
 
-/// Goes on from the log that was opened, and answers the status.
+/// Keeps what it accepts in the log of a ledger, and answers the status.
+fn keep<
+    'a,
+    J: Naming + Send + Sync,
+    D: Disk + Drop + Send + Sync,
+    R: Runtime + Threads + Wait + Net<Stream = TcpStream, Listener = TcpListener>,
+>(
+    rt: &R,
+    words: &ArgMatches<'a>,
+    most: u64,
+    start: Stamp,
+    plan: Arc<Plan>,
+    ledger: Ledger<J, Stored<Checkpoints, D>, ByPlans>,
+) -> Result<u8, Ended<'a>> {
+    let path = words.get_str("FOLDER").unwrap_or("");
+    let folder = Folder::open(rt, path)?;
+    let hub = begin(rt, ledger, plan, start, &folder)?;
+    print_waiting(&hub);
+    begin_lines(&hub)?;
+    let control = control::listen(rt, path)?;
+    let senders = listen(rt, words)?;
+    let pages = Pages::listen(rt, words)?;
+    go_on(&hub, &control, senders, pages.as_ref(), most);
+    let Some(fault) = hub.fault() else {
+        return Ok(DONE);
+    };
+    if fault == RunFault::Write {
+        let _ = eprintln!(rt;
+            "{path}: the log can't be written any more: look at its disk, and whether it is where it was"
+        );
+    }
+    Err(Ended::Run(fault))
+}
+
+/// The same of a log that was opened.
 fn run<
     'a,
     J: Naming + Send + Sync,
@@ -226,25 +261,8 @@ fn run<
     requires book { opened.seen.book ≡ J.book }
     requires before { J.before ≡ begun.before }
 {
-    let path = words.get_str("FOLDER").unwrap_or("");
-    let folder = Folder::open(rt, path)?;
     let ledger = begun.into_ledger::<J>(rt.alloc(), opened, LONG);
-    let hub = begin(rt, ledger, plan, start, &folder)?;
-    print_waiting(&hub);
-    begin_lines(&hub)?;
-    let control = control::listen(rt, path)?;
-    let senders = listen(rt, words)?;
-    let pages = Pages::listen(rt, words)?;
-    go_on(&hub, &control, senders, pages.as_ref(), most);
-    let Some(fault) = hub.fault() else {
-        return Ok(DONE);
-    };
-    if fault == RunFault::Write {
-        let _ = eprintln!(rt;
-            "{path}: the log can't be written any more: look at its disk, and whether it is where it was"
-        );
-    }
-    Err(Ended::Run(fault))
+    keep(rt, words, most, start, plan, ledger)
 }
 
 /// Keeps what it accepts in FOLDER, under the plan of the file PLAN, at ADDRESS, and answers the status.
