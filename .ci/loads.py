@@ -254,7 +254,7 @@ def no_thread(gateway, closed=3):
     gateway.kill()
 
 
-def come_and_go(gateway, seconds=15, seed=1):
+def come_and_go(gateway, seconds=15, seed=1, bulk=0):
     """Three receivers come and go, refuse, are held, and are taken out of the plan and put back, while senders send and the gateway ends again and again.
     In the end each has what was answered AA for it, and nothing of another's, that of one sender in order.
     What came twice was sent again by `resend`, or its connection or the gateway ended meanwhile."""
@@ -275,7 +275,7 @@ def come_and_go(gateway, seconds=15, seed=1):
                 while not is_over.is_set():
                     to, sent = mine.choice(names), sent + 1
                     its = b"%c%07d" % (65 + at, sent)
-                    answer = line.ask([message(its, events[to].encode())])[0]
+                    answer = line.ask([message(its, events[to].encode(), bulk=b"x" * bulk)])[0]
                     if answer is None:
                         break
                     if b"MSA|AA|%s\r" % its in answer:
