@@ -57,7 +57,7 @@ impl Storage for Rows {
 }
 
 /// Each plan routes each message to anyone.
-struct Anyone;
+pub(crate) struct Anyone;
 
 impl Rules for Anyone {
     ghost use Rattle.std.specs.Prelude.{⊤};

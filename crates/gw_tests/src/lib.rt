@@ -34,6 +34,8 @@ mod maps;
 #[cfg(test)]
 mod messages;
 #[cfg(test)]
+mod openings;
+#[cfg(test)]
 mod profiles;
 #[cfg(test)]
 mod refusals;
