@@ -1,4 +1,6 @@
 //! Forwarders: each sends one receiver what is due to it, over a connection that is made anew whenever it ends.
+ghost use Rattle.std.specs.Prelude.{◌≡◌, false};
+
 use crate::gateway::hub::Hub;
 use crate::gateway::lines::Line;
 use crate::gateway::links::{Answers, Records, connect};
@@ -6,12 +8,12 @@ use crate::runtime::Runtime;
 use crate::sockets::is_ended;
 use crate::stamps::Utc;
 use gw_ack::Ack;
-use gw_delivery::{Line as Forwarded, PageFault, Pending};
+use gw_delivery::{Line as Forwarded, PageFault, Pending, forward_due};
 use gw_folder::FolderView;
-use gw_forward::{Ended, ForwardFault, Outbox, OutboxFault, forward};
+use gw_forward::{Ended, ForwardFault, Outbox, OutboxFault};
 use gw_journal::{Naming, Storage};
-use gw_stream::{Reads, RunFault, Writes};
-use std::alloc::AllocError;
+use gw_stream::{Reads, RunFault, Sink, Source, Writes};
+use std::alloc::{AllocError, Global};
 use std::cell::Cell;
 use std::io::Eprint;
 use std::net::{Net, TcpListener, TcpStream};
@@ -143,7 +145,7 @@ impl<
     }
 
     // Sends what waits over this connection, until it ends. False: nothing more is sent.
-    fn send_over<O: Outbox + Aside>(&mut self, outbox: &mut O, stream: &TcpStream) -> bool {
+    fn send_over<O: Due>(&mut self, outbox: &mut O, stream: &TcpStream) -> bool {
         let Here { hub, line, .. } = self.here;
         let (rt, sent) = (hub.rt, self.sent);
         for _ in rt.forever() {
@@ -157,7 +159,7 @@ impl<
                 waited: &self.here.waited,
                 is_new: true,
             });
-            let ended = forward(rt.alloc(), outbox, &mut reader, &mut writer);
+            let ended = outbox.send(rt.alloc(), &mut reader, &mut writer);
             if outbox.count() > before {
                 self.pause = 0;
             }
@@ -216,11 +218,7 @@ impl<
     }
 
     // Sends over a connection, which the line keeps meanwhile. False: nothing more is sent.
-    fn go_over<O: Outbox + Aside>(
-        &mut self,
-        outbox: &mut O,
-        stream: TcpStream,
-    ) -> Result<bool, AllocError> {
+    fn go_over<O: Due>(&mut self, outbox: &mut O, stream: TcpStream) -> Result<bool, AllocError> {
         let Here { hub, line, .. } = self.here;
         let stream = Arc::new(hub.rt.alloc(), stream)?;
         self.here.stream.set(Some(stream.clone()?));
@@ -234,7 +232,7 @@ impl<
     }
 
     // Connects, sends, and connects anew, until nothing more is sent.
-    fn run<O: Outbox + Aside>(&mut self, outbox: &mut O) {
+    fn run<O: Due>(&mut self, outbox: &mut O) {
         let Here { hub, line, .. } = self.here;
         let rt = hub.rt;
         let mut is_down = false;
@@ -271,8 +269,19 @@ impl<
     }
 }
 
-/// An outbox of which a record that can't be sent is put aside.
-trait Aside {
+/// What is due to a receiver: it is sent over a connection, and a record that can't be sent is put aside.
+trait Due {
+    fn count(&self) -> u64;
+
+    fn send<I: Source, W: Sink>(
+        &mut self,
+        alloc: Global,
+        reader: &mut I,
+        writer: &mut W,
+    ) -> Result<Ended, ForwardFault>
+        requires reads { I.has_failed reader.old ≡ false }
+        requires writes { W.has_failed writer.old ≡ false };
+
     fn put_aside(&mut self) -> Result<(), OutboxFault>;
 }
 
@@ -283,7 +292,20 @@ impl<
     R: Wait,
     L: Forwarded,
     T: gw_gateway::Times,
-> Aside for Pending<'_, J, S, V, R, L, T> {
+> Due for Pending<'_, J, S, V, R, L, T> {
+    fn count(&self) -> u64 {
+        Outbox::count(self)
+    }
+
+    fn send<I: Source, W: Sink>(
+        &mut self,
+        alloc: Global,
+        reader: &mut I,
+        writer: &mut W,
+    ) -> Result<Ended, ForwardFault> {
+        forward_due(alloc, self, reader, writer)
+    }
+
     fn put_aside(&mut self) -> Result<(), OutboxFault> {
         Pending::put_aside(self)
     }
