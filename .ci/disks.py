@@ -12,7 +12,7 @@ from concurrent.futures import ThreadPoolExecutor
 from pathlib import Path
 
 from gateway import LISTENS, REPORT, RESERVE, Receiver, control
-from log_files import TAKEN, accepted, chain, margin, name, named, passed, pending, planned, state
+from log_files import TAKEN, accepted, batch, chain, margin, name, named, passed, planned, state
 from loopback import LEFT, Differs, same
 from preload import library_in
 
@@ -75,15 +75,16 @@ def goes_on(gateway, what, files, wards, archive):
 
 def torn(gateway):
     """A crash in the midst of a write that wasn't synced leaves part of a batch behind a closed gate: up to any byte, or with zeros before or behind one.
-    The log goes on with what was synced, and takes new messages."""
+    A whole one counts. Else the log goes on with what was synced. It takes new messages."""
     gateway.play(WARDS=Receiver(), ARCHIVE=Receiver())
     kept = [*begun(gateway), report(1, [1, 2]), passed(NOW, 2, 4, TAKEN), report(2, [1])]
     (its, synced), = chain([kept]).items()
-    batch = pending([report(3, [1, 2]), report(4, [1])])
-    ends = [0, 1, 2, 5, 36, 37, 38, 200, len(batch) // 2, len(batch) // 2 + 40, len(batch) - 2, len(batch) - 1, len(batch)]
+    put = batch([report(3, [1, 2]), report(4, [1])])
+    ends = [0, 1, 2, 5, 36, 37, 38, 200, len(put) // 2, len(put) // 2 + 40, len(put) - 2, len(put) - 1, len(put)]
     for end in ends:
-        for part in batch[:end], batch[:end] + bytes(len(batch) - end), bytes(end) + batch[end:]:
-            goes_on(gateway, f"torn at {end}", {its: synced[:-1] + part}, 2, 0)
+        for part in put[:end], put[:end] + bytes(len(put) - end), bytes(end) + put[end:]:
+            wards, archive = (4, 1) if part[1:] == put[1:] else (2, 0)
+            goes_on(gateway, f"torn at {end}", {its: synced[:-1] + part}, wards, archive)
 
 
 def damaged(gateway):
