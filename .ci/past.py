@@ -76,6 +76,8 @@ def plan_differs(gateway):
     (gateway.room / "next").write_text(text.replace("build 12 const 2.5.1", "build 12 const 2.5"))
     same("swap", (0, "swapped 1\n"), gateway.tell("swap", "next"))
     gateway.kill()
+    # (a start opens the gate of the last batch)
+    ran(gateway)
     before = sorted((it.name, it.read_bytes()) for it in gateway.folder.glob("*.segment"))
     status, lines = ran(gateway)
     same("a start without an option", (3, "fault 2"), (status, lines.split("\n")[0]))
