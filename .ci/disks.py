@@ -311,7 +311,7 @@ def fails_at(gateway, library, number, most=12):
     return len(accepted)
 
 
-def sync_fails(gateway, most=40):
+def sync_fails(gateway, most=20):
     """The N-th sync of the log fails, for each N, and what it should have brought to the disk is gone: no AA goes out for it, the gateway ends with status 3,
     and the next one sends all that was answered AA."""
     library = library_in(gateway.room, "failing", FAILING)

@@ -119,6 +119,11 @@ impl<'a, J: Naming, S: Storage + Drop, V: Calls + Drop, R: Wait> Finder<'a, J, S
         }
     }
 
+    /// What is looked for begins anew. The files are read on from where they were read up to.
+    pub(crate) fn renew(&mut self) {
+        self.scan = None;
+    }
+
     /// Nothing is looked for any more, and nothing was read.
     pub(crate) fn forget(&mut self) {
         self.scan = None;

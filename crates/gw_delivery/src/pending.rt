@@ -213,7 +213,7 @@ impl<'a, J: Naming, S: Storage + Drop, V: Calls + Drop, R: Wait, L: Line, T: Tim
         let found = self.finder.journal.lock(self.finder.rt).ledger.at_rest(backlog);
         if let Some(now) = found {
             self.backlog = Some(now);
-            self.finder.forget();
+            self.finder.renew();
         }
     }
 
