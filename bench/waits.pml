@@ -26,7 +26,7 @@
 #define INSTALL 1                   /* 0: no plan is installed, and both receivers are there from the start */
 #endif
 #ifndef AT_ONCE
-#define AT_ONCE 0                   /* 1: what a sync was given counts at its end; 0: at the end of the next one, or where the next file was begun */
+#define AT_ONCE 1                   /* 1: what a sync was given counts at its end, as in gw_log; 0: at the end of the next one, or where the next file was begun */
 #endif
 #ifndef MISSING
 #define MISSING 0
