@@ -26,10 +26,10 @@ use Rattle.std.specs.contracts.net.TcpStream as TcpStream
 use Rattle.std.specs.contracts.net.unix.UnixListener as Control
 use Rattle.std.specs.contracts.net.unix.UnixStream as Local
 use Rattle.hl7gate.specs.contracts.gateway.page.Pages as Pages
-use Rattle.core.specs.contracts.atomic.AtomicBool as Flag
-use Rattle.core.specs.contracts.atomic.AtomicU64 as Count
-use Rattle.core.specs.contracts.option.Option as Option
-use Rattle.core.specs.contracts.sync.Mutex as Mutex
+use Rattle.std.specs.contracts.sync.atomic.AtomicBool as Flag
+use Rattle.std.specs.contracts.sync.atomic.AtomicU64 as Count
+use Rattle.std.specs.contracts.option.Option as Option
+use Rattle.std.specs.contracts.sync.Mutex as Mutex
 use Rattle.gw_ack.specs.contracts.stamp.Stamp as Stamp
 use Rattle.gw_stream.specs.contracts.fault.RunFault as RunFault
 use Rattle.gw_ack.proofs.stamp.Stamp.TheSendSync as stamp

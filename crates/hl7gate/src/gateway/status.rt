@@ -69,6 +69,23 @@ fn receiver_json<R: Clock + AllocGlobal>(rt: &R, shown: &Shown) -> Result<String
     )
 }
 
+/// Says of one receiver more.
+fn add<R: Clock + AllocGlobal>(
+    rt: &R,
+    text: &mut String,
+    shown: &Shown,
+    is_json: bool,
+    is_first: bool,
+) -> Result<(), AllocError> {
+    if !is_json {
+        return text.push_str(&receiver_text(rt, shown)?);
+    }
+    if !is_first {
+        text.push_str(",")?;
+    }
+    text.push_str(&receiver_json(rt, shown)?)
+}
+
 /// The gateway's state: to be read, with a line for the whole and one for each receiver, or as JSON, in one line.
 pub(crate) fn state<J: Naming, S: Storage + Drop, R: Wait + Clock + AllocGlobal>(
     hub: &Hub<'_, J, S, R>,
@@ -92,16 +109,10 @@ pub(crate) fn state<J: Naming, S: Storage + Drop, R: Wait + Clock + AllocGlobal>
             "plan {plan}, accepted {accepted}, refused {refused}, {open} connections of {sessions}, disk {room}\n"
         )?
     };
-    let mut gap = "";
+    let mut is_first = true;
     for shown in &all_shown(hub)? {
-        let receiver = if is_json {
-            receiver_json(hub.rt, shown)?
-        } else {
-            receiver_text(hub.rt, shown)?
-        };
-        text.push_str(gap)?;
-        text.push_str(&receiver)?;
-        gap = if is_json { "," } else { "" };
+        add(hub.rt, &mut text, shown, is_json, is_first)?;
+        is_first = false;
     }
     text.push_str(if is_json { "]}\n" } else { "" })?;
     Ok(text)
