@@ -12,7 +12,7 @@ pub(crate) enum Ended<'a> {
     /// The place isn't a number.
     Place,
     /// The word isn't a number from 1 to 1,000.
-    Count { name: &'static str },
+    Count { name: &'a str },
     /// The address can't be listened on.
     Unheard { address: &'a str },
     /// The file can't be opened or read.
