@@ -1,9 +1,8 @@
-"""Trials of a gateway's disk: spools that are torn, cut or damaged, a disk that is full, and one whose syncs fail. `.ci/gateways` plays them.
+"""Trials of a gateway's disk: a log that is torn, cut, damaged or lacks a file, a disk that is full, and one whose syncs fail. `.ci/gateways` plays them.
 
-What a spool's file holds is made here as crates/gw_spool/README.md says, and not by the program.
+The files are made by log_files.py, and not by the program.
 """
 import contextlib
-import hashlib
 import itertools
 import json
 import re
@@ -13,136 +12,122 @@ from concurrent.futures import ThreadPoolExecutor
 from pathlib import Path
 
 from gateway import LISTENS, REPORT, RESERVE, Receiver, control
+from log_files import TAKEN, accepted, batch, chain, margin, name, named, passed, planned, state
 from loopback import LEFT, Differs, same
 from preload import library_in
 
-# How many spools one gateway opens at once, each of a receiver of its own.
-SPOOLS = 200
 # How many bytes a small disk has beside the reserve.
 BESIDE = 6 << 20
-# (nobody listens at this address)
-NOBODY = "127.0.0.1:1"
 SHORT = "the disk is short of room: messages are answered AR until 64 MB are free"
-# An acknowledgment's entry.
-TAKEN = b"\x01\0\0\0\0"
+# A time, in microseconds since 1970.
+NOW = 1_796_047_506_000_000
 
 
 class Skipped(Exception):
     """A trial that this machine doesn't allow."""
 
 
-def entry(record):
-    return b"\x01" + (32 + len(record)).to_bytes(4, "big") + hashlib.sha256(record).digest() + record
+def begun(gateway, text=None):
+    """The first records of a gateway's log by the plan of its folder: its receivers, WARDS and ARCHIVE, its plan, and the margin of numbers."""
+    text = (gateway.room / "plan").read_bytes() if text is None else text
+    address = lambda it: gateway.receivers[it].address.encode()
+    return [named(NOW, 1, b"WARDS", address("WARDS")), named(NOW, 2, b"ARCHIVE", address("ARCHIVE")), planned(NOW, text), margin(NOW, 10_001)]
 
 
-def record(number):
-    return b"MSH|^~\\&|LAB|CORELAB|||||ACK|S%07d|P|2.5.1" % number
+def report(number, to, its=b"LAB0007"):
+    """The record of the report, accepted under this number for these receivers."""
+    return accepted(NOW + number, number, to, REPORT[1:-2].replace(b"LAB0007", its))
 
 
-def lay(room, files):
-    """A plan with a receiver for each of these files, and each file in its receiver's spool."""
-    names = ["R%03d" % at for at in range(len(files))]
-    (room / "plan").write_text("plan SPOOLS\n" + "".join(f"receiver {it} {NOBODY}\n" for it in names))
-    for name, file in zip(names, files):
-        spool = room / "folder/spool" / name
-        spool.mkdir(parents=True, exist_ok=True)
-        (spool / "1").write_bytes(file)
-    return names
+def lay(gateway, files):
+    """Files of a log in the gateway's folder, and no others."""
+    for file in gateway.folder.glob("*.segment"):
+        file.unlink()
+    for its, content in files.items():
+        (gateway.folder / its).write_bytes(content)
 
 
-def opened(gateway, files, what, stated):
-    """Opens these files, and compares how many messages of each wait and what the file is then with what is stated of it."""
-    for first in range(0, len(files), SPOOLS):
-        names = lay(gateway.room, files[first : first + SPOOLS])
-        gateway.start()
-        gateway.kill()
-        waits = dict(re.findall(r"(?m)^receiver (\w+): (\d+) messages wait in folder$", "\n".join(gateway.lines)))
-        for at, name in enumerate(names, first):
-            file = (gateway.folder / "spool" / name / "1").read_bytes()
-            same(f"{what} {at}: how many messages wait, and the file", stated[at], (int(waits.get(name, 0)), file))
+def is_refused(gateway, what, files, line):
+    """A log that can't be gone on with: the gateway says so in a line, doesn't listen, and no file of the log changes."""
+    lay(gateway, files)
+    ran = subprocess.run([gateway.program, "gateway", "plan", "127.0.0.1:0", "folder"], cwd=gateway.room, capture_output=True, text=True, timeout=20)
+    same(f"{what}: status and first line", (3, "fault 2"), (ran.returncode, ran.stderr.split("\n")[0]))
+    if not re.match(line, ran.stderr.split("\n")[1]):
+        raise Differs(f"{what}: {ran.stderr!r} has no line {line!r}")
+    left = {it.name: it.read_bytes() for it in gateway.folder.glob("*.segment")}
+    same(f"{what}: the files", files, left)
 
 
-def refused(gateway, files, what, places):
-    """Each of these files is damaged, at the byte that is stated: the gateway says so, and doesn't start. The file stays as it is."""
-
-    def one(at):
-        room = gateway.room / f"{what.replace(' ', '_')}{at}"
-        (room / "folder").mkdir(parents=True)
-        lay(room, [files[at]])
-        ran = subprocess.run([gateway.program, "gateway", "plan", "127.0.0.1:0", "folder"], cwd=room, capture_output=True, text=True, timeout=20)
-        path = "folder/spool/R000/1"
-        line = f"{path}: damaged at byte {places[at]}; nothing was sent. Move this file away, and send again what it had"
-        same(f"{what} {at}: status and lines", (3, ["fault 2", line]), (ran.returncode, ran.stderr.splitlines()))
-        same(f"{what} {at}: the file", files[at], (room / path).read_bytes())
-
-    with ThreadPoolExecutor(2) as pool:
-        list(pool.map(one, range(len(files))))
+def goes_on(gateway, what, files, wards, archive):
+    """A log that is gone on with: as many messages wait for each receiver, and a new one is taken and comes behind them."""
+    lay(gateway, files)
+    for receiver in gateway.receivers.values():
+        receiver.blocks.clear()
+    gateway.start()
+    waits = [f"receiver {it}: {count} messages wait in folder" for it, count in (("WARDS", wards), ("ARCHIVE", archive)) if count]
+    same(f"{what}: what waits", waits, [it for it in gateway.lines if "messages wait" in it])
+    same(f"{what}: the code of a new message's answer", [(b"AA", None)], list(send(gateway, iter([b"LAB0099"]), 1)))
+    for its, count in ("WARDS", wards), ("ARCHIVE", archive):
+        blocks = [LEFT[its][0]] * count + [LEFT[its][0].replace(b"LAB0007", b"LAB0099")]
+        gateway.receivers[its].has(blocks, gateway.until)
+    gateway.kill()
 
 
 def torn(gateway):
     """A crash in the midst of a write that wasn't synced leaves part of a batch behind a closed gate: up to any byte, or with zeros before or behind one.
-    The spool opens with what was synced, sends that, and takes new messages."""
-    kept = [it[1:-2] for it in LEFT["WARDS"][:2]]
-    synced = b"".join(map(entry, kept))
-    batch = b"\0" + (entry(record(1)) + entry(record(2)))[1:] + b"\0"
-    ends = range(len(batch) + 1)
-    files = [synced + batch[:it] for it in ends]
-    files += [synced + batch[:it] + bytes(len(batch) - it) for it in ends]
-    files += [synced + bytes(it) + batch[it:] for it in ends]
-    opened(gateway, files, "a torn file", [(2, synced + b"\0")] * len(files))
+    A whole one counts. Else the log goes on with what was synced. It takes new messages."""
     gateway.play(WARDS=Receiver(), ARCHIVE=Receiver())
-    (gateway.folder / "spool/WARDS").mkdir()
-    (gateway.folder / "spool/WARDS/1").write_bytes(synced + batch[:40])
-    gateway.start()
-    same("the code of a new message's answer", [(b"AA", None)], list(send(gateway, iter([b"LAB0007"]), 1)))
-    gateway.receivers["WARDS"].has([*LEFT["WARDS"][:2], LEFT["WARDS"][0]], gateway.until)
-    gateway.kill()
-
-
-def spooled():
-    """A file of three records, the first of them acknowledged; the places between its entries, and how many messages wait up to each of them."""
-    entries = [entry(record(1)), entry(record(2)), TAKEN, entry(record(3))]
-    places = [sum(map(len, entries[:it])) for it in range(len(entries) + 1)]
-    return b"".join(entries), places, [0, 1, 2, 1, 2]
-
-
-def split(stated):
-    """Of pairs of a file and what is stated of it: the files that open with what they have then, and those that are damaged with their places."""
-    opens = [(file, it) for file, it in stated if isinstance(it, tuple)]
-    return *map(list, zip(*opens)), *map(list, zip(*((file, it) for file, it in stated if not isinstance(it, tuple))))
-
-
-def cut(gateway):
-    """A file that lacks bytes which were synced, from any byte on, is damaged where the entry begins that is no longer whole.
-    One that ends between two entries opens."""
-    whole, places, waits = spooled()
-
-    def stated(length):
-        at = max(it for it in range(len(places)) if places[it] <= length)
-        # (a lone gate is what a crash may leave)
-        return (waits[at], whole[: places[at]] + b"\0") if length - places[at] <= 1 else places[at]
-
-    files, then, bad, where = split([(whole[:it], stated(it)) for it in range(len(whole) + 1)])
-    opened(gateway, files, "a cut file", then)
-    refused(gateway, bad, "a cut", where)
+    kept = [*begun(gateway), report(1, [1, 2]), passed(NOW, 2, 4, TAKEN), report(2, [1])]
+    (its, synced), = chain([kept]).items()
+    put = batch([report(3, [1, 2]), report(4, [1])])
+    ends = [0, 1, 2, 5, 36, 37, 38, 200, len(put) // 2, len(put) // 2 + 40, len(put) - 2, len(put) - 1, len(put)]
+    for end in ends:
+        for part in put[:end], put[:end] + bytes(len(put) - end), bytes(end) + put[end:]:
+            wards, archive = (4, 1) if part[1:] == put[1:] else (2, 0)
+            goes_on(gateway, f"torn at {end}", {its: synced[:-1] + part}, wards, archive)
 
 
 def damaged(gateway):
-    """Any byte of a length, a digest or a record has changed: the gateway says where the entry begins, and doesn't start.
-    A gate is no such byte: where one has changed, it and all behind it is cut off."""
-    whole, places, waits = spooled()
+    """What lacks bytes that were synced, has others, or lacks a file, is no log: the gateway says where, and doesn't start. A gate of the last file is no such byte."""
+    gateway.play(WARDS=Receiver(), ARCHIVE=Receiver())
+    files = three_files(gateway)
+    one, two, three = sorted(files)
+    is_one, at = lambda it: f"folder: segment {it} is damaged at byte ", lambda it, byte: f"folder: segment {it} is damaged at byte {byte}$"
+    goes_on(gateway, "three files", files, 3, 1)
+    for what, changed, line in (
+        ("no first file", {it: files[it] for it in (two, three)}, r"folder: "),
+        ("no second file", {it: files[it] for it in (one, three)}, is_one(2)),
+        ("no third file", {it: files[it] for it in (one, two)}, is_one(3)),
+        ("an empty second file", {**files, two: b""}, is_one(2)),
+        ("an empty third file", {**files, three: b""}, is_one(3)),
+        ("two files exchanged", {one: files[two], two: files[one], three: files[three]}, r"folder: "),
+        ("a file twice", {**files, name(4): files[two]}, is_one("[45]")),
+        ("the first file cut", {**files, one: files[one][:-40]}, is_one(1)),
+        ("the second file cut", {**files, two: files[two][:-1]}, is_one(2)),
+        ("the last file cut", {**files, three: files[three][:-10]}, is_one(3)),
+        ("a byte of the last file", {**files, three: changed_at(files[three], -40)}, is_one(3)),
+        ("a byte of the first file's head", {**files, one: changed_at(files[one], 50)}, at(1, 0)),
+        ("a byte of the second file, which waits", {**files, two: changed_at(files[two], -100)}, r"folder: the log can't be read on in file 2, at byte \d+$|folder: segment 2"),
+    ):
+        is_refused(gateway, what, changed, line)
 
-    def stated(changed):
-        at = max(it for it in range(len(places)) if places[it] <= changed)
-        return (waits[at], whole[: places[at]] + b"\0") if changed == places[at] else places[at]
 
-    changes = range(len(whole))
-    files, then, bad, where = split([(whole[:it] + bytes([whole[it] ^ 0xFF]) + whole[it + 1 :], stated(it)) for it in changes])
-    opened(gateway, files, "a changed gate", then)
-    refused(gateway, bad, "a changed byte", where)
+def changed_at(content, at):
+    at %= len(content)
+    return content[:at] + bytes([content[at] ^ 0xFF]) + content[at + 1 :]
 
 
-# Has the sync of a spool's file fail, from one of a number on. What was done to that file since its last sync is undone then, as a kernel may drop what it
+def three_files(gateway):
+    """A log of three files, each of which has some that waits: for WARDS three in all, for ARCHIVE one."""
+    plan = begun(gateway)
+    parts = [[*plan, report(1, [1, 2])], [plan[2], passed(NOW, 2, 4, TAKEN), report(2, [1])], [plan[2], report(3, [1, 2])]]
+    wards, archive = (gateway.receivers[it].address.encode() for it in ("WARDS", "ARCHIVE"))
+    second = state(5, [(1, b"WARDS", wards, 4, 1), (2, b"ARCHIVE", archive, 4, 1)], plan=2, last=1, below=10_001)
+    third = state(8, [(1, b"WARDS", wards, 4, 2), (2, b"ARCHIVE", archive, 5, 0)], plan=5, last=2, below=10_001)
+    return chain(parts, checkpoints={2: second, 3: third})
+
+
+# Has the sync of a log's file fail, from one of a number on. What was done to that file since its last sync is undone then, as a kernel may drop what it
 # couldn't write. FAILED is a file that is made at that moment.
 FAILING = r"""
 typedef unsigned long size;
@@ -157,20 +142,17 @@ static long count, syncs, from;
 static char held;
 static void take(void) { while (__atomic_test_and_set(&held, __ATOMIC_ACQUIRE)); }
 static void leave(void) { __atomic_clear(&held, __ATOMIC_RELEASE); }
-static int is_spool(int file) {
+static int is_log(int file) {
     char link[40] = "/proc/self/fd/", digits[12], path[4096];
     int at = 14, k = 0;
     do digits[k++] = (char)('0' + file % 10); while (file /= 10);
     while (k) link[at++] = digits[--k];
     link[at] = 0;
     long length = syscall(READLINK, link, path, sizeof path);
-    for (long it = 0; it + 7 <= length; it++) {
-        const char *word = "/spool/";
-        int same = 0;
-        while (same < 7 && path[it + same] == word[same]) same++;
-        if (same == 7) return 1;
-    }
-    return 0;
+    const char *word = ".segment";
+    for (int same = 0; same < 8; same++)
+        if (length < 8 || path[length - 8 + same] != word[same]) return 0;
+    return 1;
 }
 static long end_of(int file) {
     long here = syscall(SEEK, file, 0L, 1), end = syscall(SEEK, file, 0L, 2);
@@ -195,7 +177,7 @@ static void forget(int file, int is_undone) {
     count = kept;
 }
 static int sync_by(long call, int file) {
-    if (!is_spool(file)) return (int)syscall(call, file);
+    if (!is_log(file)) return (int)syscall(call, file);
     take();
     int fails = ++syncs >= from, result = -1;
     forget(file, fails);
@@ -207,7 +189,7 @@ static int sync_by(long call, int file) {
 int fsync(int file) { return sync_by(FSYNC, file); }
 int fdatasync(int file) { return sync_by(FDATASYNC, file); }
 long pwrite64(int file, const void *bytes, size length, long at) {
-    int noted = is_spool(file);
+    int noted = is_log(file);
     if (noted) take(), note(file, at, (long)length);
     long result = syscall(PWRITE, file, bytes, length, at);
     if (noted) leave();
@@ -215,7 +197,7 @@ long pwrite64(int file, const void *bytes, size length, long at) {
 }
 long pwrite(int file, const void *bytes, size length, long at) { return pwrite64(file, bytes, length, at); }
 int ftruncate64(int file, long length) {
-    int noted = is_spool(file);
+    int noted = is_log(file);
     if (noted) take(), note(file, length, end_of(file) > length ? end_of(file) - length : 0);
     int result = (int)syscall(FTRUNCATE, file, length);
     if (noted) leave();
@@ -265,20 +247,15 @@ int fsync(int file) {
 
 
 def entries_synced(gateway):
-    """Each file and folder that a gateway made was in its folder at a sync of that folder: else a power cut may take it away, with all that it has.
-    It makes some at its start, at an install, and where a receiver refuses a message."""
+    """Each file of the log was in its folder at a sync of that folder: else a power cut may take it away, with all that it has."""
     noted = gateway.room / "noted"
-    gateway.play(WARDS=Receiver(codes=[b"AE", b"AA"]), ARCHIVE=Receiver())
-    (gateway.room / "next").write_text((gateway.room / "plan").read_text().replace("ARCHIVE", "VAULT"))
+    gateway.play(WARDS=Receiver(), ARCHIVE=Receiver())
     gateway.start(env={"LD_PRELOAD": str(library_in(gateway.room, "noting", NOTING)), "NOTED": str(noted)})
     gateway.ask([REPORT])
-    gateway.wait("receiver WARDS answered AE: the message is in folder/refused/WARDS.mllp")
-    same("install", (0, "installed 1\n"), gateway.tell("install", "next"))
     had = {Path(it[0]).name: set(it[1:]) for it in (block.split("\n") for block in noted.read_text().strip().split("\n\n"))}
-    for folder in (gateway.folder, gateway.folder / "spool", gateway.folder / "refused"):
-        # (a socket is no file)
-        made = {it.name for it in folder.iterdir()} - {"control"}
-        same(f"what {folder.name} has, and had not when it was synced last", set(), made - had.get(folder.name, set()))
+    made = {it.name for it in gateway.folder.glob("*.segment")}
+    same("how many files the log has", 1, len(made))
+    same("what the folder has of the log, and had not when it was synced last", set(), made - had.get("folder", set()))
     gateway.kill()
 
 
@@ -322,10 +299,11 @@ def fails_at(gateway, library, number, most=12):
         accepted = send_until_it_ends(gateway, failed, most)
     gateway.process.wait(max(0.01, gateway.until - time.monotonic()))
     gateway.reader.join(1)
-    same(f"sync {number} of a spool fails: its status, and whether it failed", (3, True), (gateway.process.returncode, failed.exists()))
-    while_it_goes = [gateway.lines[-1:] == ["fault 3"], bool(gateway.found(r"the spool of receiver (WARDS|ARCHIVE) failed: the disk has failed"))]
-    at_its_start = [gateway.lines[-2:-1] == ["fault 3"], bool(gateway.found(r"folder/spool/(WARDS|ARCHIVE)(/1)?: the file can't be made or written"))]
-    if not (all(while_it_goes) if gateway.found(LISTENS) else all(at_its_start)):
+    same(f"sync {number} of the log fails: its status, and whether it failed", (3, True), (gateway.process.returncode, failed.exists()))
+    if gateway.found(LISTENS):
+        same(f"sync {number} failed: its last line", ["fault 3"], gateway.lines[-1:])
+        gateway.wait("folder: the log can't be written any more: .*")
+    elif not gateway.found("fault [23]"):
         raise Differs(f"sync {number} failed, and that isn't what the lines say: {gateway.lines}")
     gateway.start()
     all_arrived(gateway, accepted, 1)
@@ -333,8 +311,8 @@ def fails_at(gateway, library, number, most=12):
     return len(accepted)
 
 
-def sync_fails(gateway, most=40):
-    """The N-th sync of a spool fails, for each N, and what it should have brought to the disk is gone: no AA goes out for it, the gateway ends with status 3,
+def sync_fails(gateway, most=20):
+    """The N-th sync of the log fails, for each N, and what it should have brought to the disk is gone: no AA goes out for it, the gateway ends with status 3,
     and the next one sends all that was answered AA."""
     library = library_in(gateway.room, "failing", FAILING)
 
@@ -360,9 +338,9 @@ def fill(path):
 
 
 @contextlib.contextmanager
-def small_disk(folder):
+def small_disk(folder, size=RESERVE + BESIDE):
     """A disk of its own under this folder, while it is used."""
-    made = subprocess.run(["mount", "-t", "tmpfs", "-o", f"size={RESERVE + BESIDE}", "none", folder], capture_output=True, text=True)
+    made = subprocess.run(["mount", "-t", "tmpfs", "-o", f"size={size}", "none", folder], capture_output=True, text=True)
     if made.returncode:
         raise Skipped(f"a disk of its own can't be mounted here: {made.stderr.splitlines()[0]}")
     try:
@@ -463,7 +441,7 @@ def no_room(gateway):
         same("what the gateway's end was", None, gateway.process.poll())
         gateway.kill()
         gateway.start(waits=False)
-        gateway.ends(3, ["fault 3", "folder/numbers: the file can't be made or written"])
+        gateway.ends(3, ["fault 3", "folder: the file can't be made or written"])
         same("what WARDS got", [], wards.blocks)
         others.unlink()
         gateway.start()

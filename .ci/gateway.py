@@ -1,4 +1,4 @@
-"""A gateway of the program in a folder, with its receivers, the lines that it prints, and the files of its spools. `.ci/gateways` plays with it."""
+"""A gateway of the program in a folder, with its receivers, the lines that it prints, and its log. `.ci/gateways` plays with it."""
 import contextlib
 import json
 import re
@@ -37,9 +37,10 @@ def logged(answer):
 
 class Receiver:
     """A receiver that takes one connection after another, and keeps what came. It acknowledges each block by the next of its codes, the last of them for ever.
-    `None` closes the connection instead."""
+    `None` closes the connection instead, and an empty one says nothing. Where it `closes`, it ends its connection behind each acknowledgment."""
 
-    def __init__(self, codes=(b"AA",), port=0):
+    def __init__(self, codes=(b"AA",), port=0, closes=False):
+        self.closes = closes
         self.codes, self.blocks, self.news, self.held = list(codes), [], threading.Condition(), None
         self.open(port)
 
@@ -87,7 +88,13 @@ class Receiver:
                     if code is None:
                         line.close()
                         return
+                    if not code:
+                        continue
                     line.sendall(b"\x0bMSH|^~\\&|||||||ACK|R|P|2.5.1\rMSA|%s|%s\r\x1c\r" % (code, control(found[0])))
+                    if self.closes:
+                        line.shutdown(socket.SHUT_RDWR)
+                        line.close()
+                        return
 
     def has(self, stated, until):
         with self.news:
@@ -163,6 +170,12 @@ class Gateway:
         self.reader.join(1)
         for secret in SECRETS:
             same(f"lines with {secret} of a message", [], [it for it in self.lines if secret in it])
+
+    def stop(self):
+        """Is stopped by the word: what its receivers acknowledged is on the disk then."""
+        same("stop", (0, "stops: what waits is sent by the next start\n"), self.tell("stop"))
+        same("its status", 0, self.process.wait(20))
+        self.reader.join(1)
 
     def close(self):
         """Whatever came of it, nothing of it goes on."""

@@ -1,6 +1,8 @@
-"""Trials of a gateway under load: what ends a round, senders that send faster than one takes, or don't take their answers.
+"""Trials of a gateway under load: senders that send faster than one takes, that send long messages slowly, or don't take their answers.
 Also receivers that change places, and long translations. `.ci/gateways` plays them.
 """
+import contextlib
+import random
 import re
 import socket
 import struct
@@ -8,9 +10,9 @@ import threading
 import time
 from concurrent.futures import ThreadPoolExecutor
 
-from disks import entry
-from gateway import REPORT, Receiver
-from loopback import ANSWERS, Differs, same
+from gateway import REPORT, Receiver, control, numbered
+from loopback import ANSWERS, Differs, Line, same
+from preload import library_in
 
 # (nobody listens at this address)
 NOBODY = "127.0.0.1:1"
@@ -44,7 +46,7 @@ def message(name, event=b"A01", sender=b"", bulk=b"", more=b""):
 
 
 def burst(gateway, receivers=20, senders=12, each=500):
-    """Messages come faster than a round ends, each for many receivers: all are answered AA, and wait for each receiver."""
+    """Messages come faster than they are answered, each for many receivers: all are answered AA, and wait for each receiver."""
     (gateway.room / "plan").write_text(plan_for({"R%02d" % it: NOBODY for it in range(receivers)}))
     gateway.start()
 
@@ -63,16 +65,11 @@ def burst(gateway, receivers=20, senders=12, each=500):
     gateway.kill()
 
 
-def is_in_round(gateway, number):
-    """Waits until this round has begun."""
-    same("round", True, gateway.once(True, lambda: gateway.status()["round"] >= number))
-
-
-def many_sessions(gateway, most=101_000, at_once=100):
-    """A round ends after 100,000 sessions: each has a part of the ledger, until the round's end."""
+def many_sessions(gateway, most=10_000, at_once=100):
+    """Sessions that send nothing, one after the other: none leaves anything behind."""
     (gateway.room / "plan").write_text(plan_for({"NOBODY": NOBODY}))
     gateway.start()
-    gateway.until += 120
+    gateway.until += 60
     at, now = ("127.0.0.1", gateway.port), struct.pack("ii", 1, 0)
     for done in range(0, most, at_once):
         lines = [socket.create_connection(at, 5) for _ in range(at_once)]
@@ -83,25 +80,44 @@ def many_sessions(gateway, most=101_000, at_once=100):
         # (each has two lines)
         with gateway.news:
             gateway.news.wait_for(lambda: len(gateway.lines) >= 2 * done - 500, max(0, gateway.until - time.monotonic()))
-    is_in_round(gateway, 2)
     same("an answer", True, b"MSA|AA|M|" in (gateway.ask([message(b"M")])[0] or b"").replace(b"\r", b"|"))
+    same("connections that are open", 0, gateway.once(0, lambda: gateway.status()["connections"]))
     gateway.kill()
 
 
-def large_messages(gateway, receivers=100, size=1_000_000):
-    """A round ends after a number of bytes: its journal keeps each message, and a translation for each receiver."""
-    others = "".join(f"receiver R{it} {NOBODY}\n" for it in range(receivers))
-    (gateway.room / "plan").write_text(plan_for({"NOBODY": NOBODY}).replace("accept version", others + "accept version"))
+def slow_messages(gateway, slow=70, most=45):
+    """More senders than have a turn send long messages, and none ends its own: whoever sends short ones is answered at once, and memory has a bound.
+    Each of the long ones that ends is answered."""
+    (gateway.room / "plan").write_text(plan_for({"NOBODY": NOBODY}))
     gateway.start()
-    line = gateway.client()
-    for at in range(8):
-        same("an answer", True, b"MSA|AA|M%d\r" % at in (line.ask([message(b"M%d" % at, bulk=b"x" * size)])[0] or b""))
-    is_in_round(gateway, 2)
+    gateway.until += 60
+    whole, lines = message(b"SLOW", bulk=b"x" * 900_000), [gateway.client() for _ in range(slow)]
+    senders = [threading.Thread(target=it.send, args=(whole[:-3],), daemon=True) for it in lines]
+    for sender in senders:
+        sender.start()
+    time.sleep(3)
+    short, since = gateway.client(), time.monotonic()
+    for at in range(20):
+        same("a short message's answer", True, b"MSA|AA|S%d\r" % at in (short.ask([message(b"S%d" % at)])[0] or b""))
+    if time.monotonic() - since > 10:
+        raise Differs(f"20 short messages took {time.monotonic() - since:.1f} s")
+    size = int(re.search(r"VmRSS:\s+(\d+) kB", open(f"/proc/{gateway.process.pid}/status").read())[1])
+    if size > 400_000:
+        raise Differs(f"the gateway has {size} kB")
+    answered = 0
+    for line in lines:
+        with contextlib.suppress(OSError):
+            line.send(whole[-3:])
+    for line in lines:
+        with contextlib.suppress(OSError):
+            answered += b"MSA|AA|SLOW\r" in (line.block() or b"")
+    same("long messages that were answered AA", slow, answered)
     gateway.kill()
 
 
-def deaf(gateway, most=5):
-    """A sender takes none of its answers. At the end of a round it is waited for a second: the others are answered, and its session ends."""
+def deaf(gateway, most=3):
+    """A sender takes none of its answers: the others are answered and plans are swapped in meanwhile. Its session ends after a minute."""
+    gateway.until += 30
     gateway.play(WARDS=Receiver(), ARCHIVE=Receiver())
     gateway.start()
     line = gateway.client()
@@ -119,14 +135,14 @@ def deaf(gateway, most=5):
             raise Differs("its answers were taken")
         except TimeoutError:
             pass
-        same("swaps", [f"swapped {it + 1}\n" for it in range(20)], [gateway.tell("swap", "plan")[1] for _ in range(20)])
-        since = time.monotonic()
-        is_in_round(gateway, 2)
-        answer = line.ask([REPORT])[0]
-        if time.monotonic() - since > most:
-            raise Differs(f"the round, and an answer in the next, took {time.monotonic() - since:.1f} s")
-        same("the answer's code", [b"AA"], re.findall(rb"MSA\|(\w+)\|", answer))
-        gateway.wait("session 2: its sender didn't take an answer in time")
+        for _ in range(20):
+            since = time.monotonic()
+            same("swap", 0, gateway.tell("swap", "plan")[0])
+            answer = line.ask([REPORT])[0]
+            if time.monotonic() - since > most:
+                raise Differs(f"a swap, and an answer, took {time.monotonic() - since:.1f} s")
+            same("the answer's code", [b"AA"], re.findall(rb"MSA\|(\w+)\|", answer))
+        # (its own time ends it, or the system's, whichever is first)
         gateway.wait("session 2 ended: fault 3: the writer failed")
     gateway.kill()
 
@@ -148,23 +164,25 @@ def long_translation(gateway, results=5_000):
     gateway.wait("receiver ONE: 2 messages wait in folder")
     one.open(one.port)
     one.has(stated, gateway.until)
-    gateway.wait("receiver ONE answered AE: the message is in folder/refused/ONE.mllp")
+    gateway.wait(r"receiver ONE answered AE: the message is at place \d+ of the log in folder")
     same("resend", (0, "resent 1\n"), gateway.tell("resend", "ONE"))
     one.has([*stated, stated[0]], gateway.until)
     gateway.kill()
 
 
-def unsendable(gateway):
-    """A record that can't be sent is kept with what its receiver refused, and the next is sent."""
-    one, records = Receiver(), [b"no message", message(b"NEXT")[1:-2]]
+def large_translation(gateway, size=900_000):
+    """A translation that is longer than a message may be is sent, and again once its receiver has refused it."""
+    one = Receiver(codes=[b"AE", b"AA"])
     gateway.receivers = {"ONE": one}
-    (gateway.room / "plan").write_text(plan_for({"ONE": one.address}))
-    (gateway.folder / "spool/ONE").mkdir(parents=True)
-    (gateway.folder / "spool/ONE/1").write_bytes(b"".join(map(entry, records)))
+    (gateway.room / "plan").write_text(plan_for({"ONE": one.address}, items=COPY.replace("copy 3 from MSH-3", "copy 3 from MSH-8") + "drop MSH-3\n"))
     gateway.start()
-    one.has([b"\x0b" + records[1] + b"\x1c\r"], gateway.until)
-    gateway.wait("receiver ONE isn't sent a message whose header can't be read: the message is in folder/refused/ONE.mllp")
-    same("what isn't sent", b"\x0b" + records[0] + b"\x1c\r", (gateway.folder / "refused/ONE.mllp").read_bytes())
+    bulk = b"x" * size
+    same("the code", [b"AA"], [re.search(rb"MSA\|(\w+)", it)[1] for it in gateway.ask([message(b"LARGE", bulk=bulk)])])
+    stated = message(b"LARGE", sender=bulk, bulk=bulk)
+    one.has([stated], gateway.until)
+    gateway.wait(r"receiver ONE answered AE: the message is at place \d+ of the log in folder")
+    same("resend", (0, "resent 1\n"), gateway.tell("resend", "ONE"))
+    one.has([stated, stated], gateway.until)
     gateway.kill()
 
 
@@ -193,4 +211,126 @@ def reordered(gateway):
     for name, *stated in zip(names, first, then):
         # (the second is answered AR, once its receiver is gone)
         receivers[name].has(stated[:1] if name == "TWO" else stated, gateway.until)
+    gateway.kill()
+
+
+# Lets no thread begin while the file of NONE is there.
+THREADS = r"""
+extern long syscall(long, ...);
+extern char *getenv(const char *);
+extern void *dlsym(void *, const char *);
+enum { ACCESS = 21, AGAIN = 11 };
+int pthread_create(void *thread, const void *how, void *(*begin)(void *), void *with) {
+    int (*create)(void *, const void *, void *(*)(void *), void *) = dlsym((void *)-1L, "pthread_create");
+    return syscall(ACCESS, getenv("NONE"), 0L) ? create(thread, how, begin, with) : AGAIN;
+}
+"""
+
+
+def no_thread(gateway, closed=3):
+    """A connection for which no thread can be started is closed. Sessions, words and receivers go on meanwhile, and a later connection is answered."""
+    gateway.play(WARDS=Receiver(), ARCHIVE=Receiver())
+    none = gateway.room / "none"
+    gateway.start(env={"LD_PRELOAD": str(library_in(gateway.room, "threads", THREADS)), "NONE": str(none)})
+    for receiver in gateway.receivers.values():
+        gateway.wait(f"receiver \\w+ at {receiver.address} connected")
+    line = gateway.client()
+    gateway.answered(line.ask([REPORT]), [numbered(1)])
+    none.write_text("")
+    for at in range(closed):
+        answer = b"none yet"
+        with contextlib.suppress(ConnectionError):
+            answer = gateway.client().block()
+        if answer and answer != b"none yet":
+            raise Differs(f"a connection without a thread got {answer!r}")
+        gateway.answered(line.ask([REPORT]), [numbered(2 + at)])
+    gateway.wait("no thread can be started for a connection: it is closed", closed)
+    same("swap", (0, "swapped 1\n"), gateway.tell("swap", "plan"))
+    same("connections that are open", 1, gateway.status()["connections"])
+    none.unlink()
+    gateway.answered(gateway.ask([REPORT]), [numbered(2 + closed)])
+    for name, receiver in gateway.receivers.items():
+        receiver.gets(name, [b"LAB0007"], gateway.until, repeats=closed + 1)
+    gateway.kill()
+
+
+def come_and_go(gateway, seconds=15, seed=1, bulk=0):
+    """Three receivers come and go, refuse, are held, and are taken out of the plan and put back, while senders send and the gateway ends again and again.
+    In the end each has what was answered AA for it, and nothing of another's, that of one sender in order.
+    What came twice was sent again by `resend`, or its connection or the gateway ended meanwhile."""
+    chance, names, is_over = random.Random(seed), ["ONE", "TWO", "THREE"], threading.Event()
+    events = dict(zip(names, ("A01", "A02", "A03")))
+    receivers = {it: Receiver(codes=[*chance.choices([b"AA", b"AE"], [99, 1], k=10_000), b"AA"]) for it in names}
+    gateway.receivers, addresses = receivers, {name: it.address for name, it in receivers.items()}
+    gateway.until += 2 * seconds
+    for path, those in ("plan", names), ("two", ["THREE", "ONE"]), ("one", ["TWO"]):
+        (gateway.room / path).write_text(routed({it: addresses[it] for it in those}, events))
+    accepted, repeats, down = {it: ([], []) for it in names}, dict.fromkeys(names, 0), set()
+
+    def send(at):
+        mine, sent = random.Random(seed + 1 + at), 0
+        while not is_over.is_set():
+            with contextlib.suppress(OSError), contextlib.closing(gateway.client().socket) as socket_:
+                line = Line(socket_, gateway.until)
+                while not is_over.is_set():
+                    to, sent = mine.choice(names), sent + 1
+                    its = b"%c%07d" % (65 + at, sent)
+                    answer = line.ask([message(its, events[to].encode(), bulk=b"x" * bulk)])[0]
+                    if answer is None:
+                        break
+                    if b"MSA|AA|%s\r" % its in answer:
+                        accepted[to][at].append(its)
+                    time.sleep(0.002)
+            time.sleep(0.01)
+
+    gateway.start()
+    senders = [threading.Thread(target=send, args=(it,), daemon=True) for it in range(2)]
+    for sender in senders:
+        sender.start()
+    ends = time.monotonic() + seconds
+    while time.monotonic() < ends:
+        time.sleep(chance.uniform(0.02, 0.3))
+        word, to = chance.choice(["install", "hold", "go", "go", "resend", "end", "down", "up", "up"]), chance.choice(names)
+        if word == "end":
+            gateway.kill() if chance.random() < 0.5 else gateway.stop()
+            gateway.start("--keep-plan")
+            repeats = {name: count + 1 for name, count in repeats.items()}
+        elif word == "down" and to not in down:
+            receivers[to].close()
+            repeats[to] += 1
+            down.add(to)
+        elif word == "up" and to in down:
+            receivers[to].open(receivers[to].port)
+            down.remove(to)
+        elif word == "install":
+            same("install", 0, gateway.tell("install", chance.choice(["plan", "two", "one"]))[0])
+        elif word in ("hold", "go", "resend"):
+            # (a receiver that the plan lacks may be unknown since the start)
+            status, said = gateway.tell(word, to)
+            same(f"{word} {to}", True, status == 0 or said == "refused: no receiver of the plan has this name\n")
+            if said.startswith("resent "):
+                repeats[to] += int(said.split()[1])
+    is_over.set()
+    for sender in senders:
+        sender.join(10)
+    for to in down:
+        receivers[to].open(receivers[to].port)
+    same("install in the end", 0, gateway.tell("install", "plan")[0])
+    for to in names:
+        same("go in the end", 0, gateway.tell("go", to)[0])
+        gateway.ask([message(b"LAST", events[to].encode())])
+    for name, receiver in receivers.items():
+        with receiver.news:
+            receiver.news.wait_for(lambda: receiver.blocks and control(receiver.blocks[-1]) == b"LAST", max(0, gateway.until - time.monotonic()))
+        came = [control(it) for it in receiver.blocks]
+        once = list(dict.fromkeys(came))
+        same(f"the last message of {name}", [b"LAST"], once[-1:])
+        others = {it for other in names if other != name for its in accepted[other] for it in its}
+        same(f"what {name} got of others", set(), others & set(once))
+        for those in accepted[name]:
+            its = set(those)
+            same(f"what {name} lacks, or has out of order", those, [it for it in once if it in its])
+        if len(came) - len(once) > repeats[name]:
+            raise Differs(f"{name} got {len(came) - len(once)} messages twice, where {repeats[name]} may come again")
+        same(f"whether {name} got any", True, len(once) > 1)
     gateway.kill()

@@ -13,38 +13,44 @@ def text(value):
 # Records, in files
 
 
-def block(record, gate=b"\x01"):
-    return gate + number(32 + len(record), 4) + hashlib.sha256(record).digest() + record
+OPEN, SHUT, END = b"\x01", b"\x02", b"\x00"
 
 
-def head(file, first, before, oldest=1, log=7, checkpoint=b""):
-    return b"".join(map(number, (file, first, before, oldest, log))) + checkpoint
+def block(record, gate=OPEN):
+    """A record behind its gate, its count, its length and its digest. The count is 2^64 - 1, less how many bytes behind it are not 0."""
+    item = hashlib.sha256(record).digest() + record
+    sized = number(len(item), 4) + item
+    return gate + number(2**64 - 1 - sum(byte != 0 for byte in sized)) + sized
+
+
+def head(file, first, before, keep=0, log=7, checkpoint=b""):
+    return b"".join(map(number, (file, first, before, keep, log))) + checkpoint
 
 
 def open_file(head, records):
     """The last file: it isn't ended."""
-    return b"".join(map(block, [head, *records])) + b"\0"
+    return b"".join(map(block, [head, *records])) + SHUT
 
 
 def ended_file(head, records):
-    return open_file(head, [*records, b""])
+    return b"".join(map(block, [head, *records, b""])) + END
 
 
-def pending(records):
-    """What stands behind the records of a file while a batch is pending, whose gate is closed."""
+def batch(records, gate=SHUT, close=SHUT):
+    """What stands behind the records of a file where a batch was put behind them, whose gate isn't open yet."""
     first, *others = records
-    return block(first, b"\0") + b"".join(map(block, others)) + b"\0"
+    return block(first, gate) + b"".join(map(block, others)) + close
 
 
 def name(file):
     return f"{file:020}.segment"
 
 
-def chain(parts, first=1, start=0, before=0, oldest=1, log=7, checkpoints=None):
+def chain(parts, first=1, start=0, before=0, keep=0, log=7, checkpoints=None):
     """The files of a log: of each part the records of one file, of which the last isn't ended. A checkpoint that isn't given is that of a log of no receiver."""
     files = {}
     for file, records in enumerate(parts, first):
-        its = head(file, start, before, oldest, log, (checkpoints or {}).get(file, EMPTY))
+        its = head(file, start, before, keep, log, (checkpoints or {}).get(file, EMPTY))
         is_last = file == first + len(parts) - 1
         files[name(file)] = (open_file if is_last else ended_file)(its, records)
         start, before = start + len(records), len(files[name(file)])
@@ -98,7 +104,7 @@ def retired(time, below):
 
 
 def state(next_place, receivers, plan=None, last=None, below=0, oldest=0):
-    """A checkpoint: receivers by their number, name and address, for which nothing is left."""
+    """A checkpoint: receivers by their number, name and address, from which place on something is left, how much, and how many they refused."""
     perhaps = (b"\x00" if it is None else b"\x01" + number(it) for it in (plan, last))
-    each = (number(it, 4) + text(its) + text(address) + number(0) * 3 for it, its, address in receivers)
+    each = (number(it, 4) + text(its) + text(address) + b"".join(map(number, [*counts, 0, 0, 0][:3])) for it, its, address, *counts in receivers)
     return number(next_place) + b"".join(perhaps) + number(below) + number(oldest) + number(len(receivers), 4) + b"".join(each)

@@ -152,8 +152,8 @@ def page_when_short(gateway):
 
 
 def page_of_the_down(gateway, seconds=60):
-    """A receiver that is down is shown so; after a minute the health is 503, and says who."""
-    wards, archive = Receiver(), Receiver()
+    """A receiver that is down is shown so, and one that acknowledges nothing is connected; after a minute the health is 503, and says of both what is wrong."""
+    wards, archive = Receiver(), Receiver(codes=[b""])
     gateway.until += seconds + 10
     gateway.play(WARDS=wards, ARCHIVE=archive)
     wards.close()
@@ -165,9 +165,10 @@ def page_of_the_down(gateway, seconds=60):
     if not re.search(r">WARDS</th><td><strong>not connected</strong> for \d+ s</td><td>1</td>", got(gateway, "/")[2]):
         raise Differs("the page doesn't show that WARDS is down")
     same("what waits", (1, 0), (lambda it: tuple(it[name, (("receiver", "WARDS"),)] for name in ("hl7gate_due", "hl7gate_receiver_connected")))(samples(got(gateway, "/metrics")[2])))
-    while (status := got(gateway, "/health"))[0] == 200 and time.monotonic() < gateway.until:
+    while len((status := got(gateway, "/health"))[2].splitlines()) < 2 and time.monotonic() < gateway.until:
         time.sleep(0.5)
     if not seconds - 1 < time.monotonic() - since < seconds + 5:
         raise Differs(f"the health fell after {time.monotonic() - since:.0f} s")
-    same("health after a minute", (503, True), (status[0], re.fullmatch(r"receiver WARDS has not been connected for \d+ s\n", status[2]) is not None))
+    stated = ["receiver ARCHIVE has taken nothing for N s", "receiver WARDS has not been connected for N s"]
+    same("health after a minute", (503, stated), (status[0], sorted(re.sub(r"\d+ s$", "N s", it) for it in status[2].splitlines())))
     gateway.kill()

@@ -1,5 +1,5 @@
 //! What a start makes of a checkpoint and the records behind it.
-ghost use Rattle.std.specs.Prelude.{◌≡◌, ℕ, map, IfOk, IfErr, IsErrOf, OnOk, IsFalse};
+ghost use Rattle.std.specs.Prelude.{◌≡◌, ◌<◌, ℕ, length, map, IfOk, IfErr, IsErrOf, OnOk, IsFalse};
 ghost use Rattle.gw_due.specs.Checkpoint as spelling;
 ghost use Rattle.gw_due.specs.State as spec;
 ghost use Rattle.gw_due.specs.Starting.{IsFullAt, Refuses, Starts, StopsAt};
@@ -38,6 +38,7 @@ pub fn start(alloc: Global, checkpoint: &[u8], records: &[Vec<u8>]) -> Result<St
         (s : spec.State) → spelling.StateFits s → checkpoint.now ≡ spelling.checkpoint s → ⊥ }
     ensures record { IfErr result (λ f. (at : ℕ) → f ≡ StartFault.Record at →
         StopsAt checkpoint.now (map (λ r. r.items) records.now) at) }
+    ensures within { IfErr result (λ f. (at : ℕ) → f ≡ StartFault.Record at → at < length records.now) }
     ensures full { IfErr result (λ f. (at : ℕ) → f ≡ StartFault.Full at →
         IsFullAt checkpoint.now (map (λ r. r.items) records.now) at) }
 {

@@ -7,7 +7,6 @@ use std::alloc::Global;
 use std::fs::File;
 use std::io;
 use std::io::ErrorKind;
-use std::os::unix::fs::FileExt;
 use std::rt::Files;
 
 /// A folder of the operating system, whose files are a log's. One process at a time has it.
@@ -24,6 +23,11 @@ pub(crate) fn disk_fault(failure: Failure) -> DiskFault {
         ErrorKind::OutOfMemory => DiskFault::Memory,
         _ => DiskFault::Failed,
     }
+}
+
+// Whether a disk, or what a user may have of it, is full.
+fn is_full(kind: ErrorKind) -> bool {
+    matches!(kind, ErrorKind::StorageFull | ErrorKind::QuotaExceeded)
 }
 
 impl<'a, R: Files<File = File> + AllocGlobal + Clone + Drop> RealFolder<'a, R> {
@@ -50,21 +54,23 @@ impl<R: Files<File = File> + AllocGlobal> RealFolder<'_, R> {
         if self.shelf.make(number)? {
             self.has_unsynced_names = true;
         }
-        match self.shelf.file(number)? {
-            // (bytes of zero would stand between)
-            Some(file) if (file.metadata()?.len() as usize) < at => {
-                Err(io::Error::from(ErrorKind::InvalidInput))
-            }
-            Some(file) => file.write_all_at(bytes, at as u64),
-            None => Err(io::Error::from(ErrorKind::NotFound)),
+        self.shelf.write(number, at, bytes)
+    }
+
+    // Writes all, into the room that is kept free where there is no other.
+    fn write_somehow(&mut self, number: u64, at: usize, bytes: &[u8]) -> io::Result<()> {
+        let written = self.write_all(number, at, bytes);
+        if let Err(error) = &written
+            && is_full(error.kind())
+            && self.shelf.give_up_room().unwrap_or(false)
+        {
+            return self.write_all(number, at, bytes);
         }
+        written
     }
 
     fn cut_to(&mut self, number: u64, len: usize) -> io::Result<()> {
-        match self.shelf.file(number)? {
-            Some(file) if len < file.metadata()?.len() as usize => file.set_len(len as u64),
-            _ => Ok(()),
-        }
+        self.shelf.cut(number, len)
     }
 
     fn sync_file(&mut self, number: u64) -> io::Result<()> {
@@ -113,7 +119,7 @@ impl<R: Files<File = File> + AllocGlobal + Clone + Drop> Calls for RealFolder<'_
     }
 
     fn write_at(&mut self, number: u64, at: usize, bytes: &[u8]) -> bool {
-        let written = self.write_all(number, at, bytes);
+        let written = self.write_somehow(number, at, bytes);
         self.shelf.note(Asked::Write, Some(number), written).is_ok()
     }
 

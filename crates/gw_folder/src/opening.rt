@@ -8,8 +8,14 @@ use std::io;
 use std::os::fd::AsRawFd;
 use std::rt::Files;
 
+// How many bytes a file has at most in which no log was begun. A log's first head takes 108 of them.
+const UNBEGUN: usize = 128;
+
 // Opens what has to be a folder. The dot sees to that, and a pipe isn't waited for.
-fn open_folder<R: Files<File = File> + AllocGlobal>(rt: &R, path: &str) -> io::Result<File> {
+pub(crate) fn open_folder<R: Files<File = File> + AllocGlobal>(
+    rt: &R,
+    path: &str,
+) -> io::Result<File> {
     if path.is_empty() {
         return Err(io::Error::from_raw_os_error(libc::ENOENT));
     }
@@ -104,14 +110,35 @@ fn settle_one<R: Files<File = File> + AllocGlobal>(
     }
 }
 
-/// Brings the files of a folder and their names to the disk.
+// Whether the folder has one file, in which no log was begun: a head alone, behind a gate that isn't open. So the system stopped while it was made.
+fn is_unbegun<R: Files<File = File> + AllocGlobal>(
+    alloc: Global,
+    shelf: &mut Shelf<'_, R>,
+    numbers: &[u64],
+) -> io::Result<bool> {
+    if numbers.len() != 1 || numbers.first() != Some(&1) || shelf.size(1)? > UNBEGUN {
+        return Ok(false);
+    }
+    let first = shelf.read(alloc, 1, 0, 1)?;
+    Ok(first.first() != Some(&1))
+}
+
+/// Brings the files of a folder and their names to the disk. A file in which no log was begun is taken away.
 pub(crate) fn settle<R: Files<File = File> + AllocGlobal + Clone + Drop>(
     rt: &R,
     path: &str,
     shelf: &mut Shelf<'_, R>,
 ) -> Result<(), OpenFault> {
-    for number in &each_number(rt, path)? {
+    let numbers = each_number(rt, path)?;
+    for number in &numbers {
         or_failure(Asked::Sync, Some(*number), settle_one(shelf, *number))?;
+    }
+    if or_failure(
+        Asked::Read,
+        Some(1),
+        is_unbegun(rt.alloc(), shelf, &numbers),
+    )? {
+        or_failure(Asked::Remove, Some(1), shelf.unlink(1))?;
     }
     shelf.sync_names()?;
     Ok(())

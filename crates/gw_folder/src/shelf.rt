@@ -8,11 +8,19 @@ use std::os::unix::fs::{FileExt, MetadataExt, OpenOptionsExt};
 use std::rt::Files;
 use std::{fs, io};
 
+/// As many bytes are read without a look at how many there are.
+const SHORT: usize = 65_536;
+
 /// A file that is open, and its number.
 #[derive(Drop)]
 struct Opened {
     number: u64,
     file: File,
+    // which file of the system it is
+    dev: u64,
+    ino: u64,
+    // how many bytes it has at least, where this process alone writes
+    size: usize,
 }
 
 /// The files of a folder. It keeps what failed first.
@@ -58,9 +66,14 @@ fn find_at<R: Files>(rt: &R, path: &str, held: &File) -> io::Result<()> {
 
 /// The bytes of a file from an offset on: this number of them, or as many as there are.
 fn read_from(alloc: Global, file: &File, at: usize, len: usize) -> io::Result<Vec<u8>> {
-    let size = file.metadata()?.len() as usize;
     let mut bytes = Vec::new(alloc);
-    bytes.resize(len.min(size.saturating_sub(at)), 0)?;
+    let most = if len <= SHORT {
+        len
+    } else {
+        let size = file.metadata()?.len() as usize;
+        len.min(size.saturating_sub(at))
+    };
+    bytes.resize(most, 0)?;
     let mut got = 0;
     for _ in 0..u64::MAX {
         if got >= bytes.len() {
@@ -132,7 +145,15 @@ impl<'a, R: Files<File = File> + AllocGlobal> Shelf<'a, R> {
             options.create_new(true);
         }
         let file = options.open(self.rt, path.as_str())?;
-        self.opened = Some(Opened { number, file });
+        let of = file.metadata()?;
+        let (dev, ino, size) = (of.dev(), of.ino(), of.len() as usize);
+        self.opened = Some(Opened {
+            number,
+            file,
+            dev,
+            ino,
+            size,
+        });
         Ok(())
     }
 
@@ -188,7 +209,11 @@ impl<'a, R: Files<File = File> + AllocGlobal> Shelf<'a, R> {
     pub(crate) fn find(&self, number: u64) -> io::Result<()> {
         match &self.opened {
             Some(opened) if opened.number == number => {
-                find_at(self.rt, self.path_of(number)?.as_str(), &opened.file)
+                let there = metadata(self.rt, self.path_of(number)?.as_str())?;
+                if there.dev() == opened.dev && there.ino() == opened.ino {
+                    return Ok(());
+                }
+                Err(io::Error::from(ErrorKind::NotFound))
             }
             _ => Ok(()),
         }
@@ -204,6 +229,38 @@ impl<'a, R: Files<File = File> + AllocGlobal> Shelf<'a, R> {
     pub(crate) fn sync_names(&self) -> Result<(), Failure> {
         or_failure(Asked::Sync, None, self.folder.sync_all())?;
         self.find_folder()
+    }
+
+    /// Writes all bytes at this offset of a file that is there. There may be no gap before them.
+    pub(crate) fn write(&mut self, number: u64, at: usize, bytes: &[u8]) -> io::Result<()> {
+        if !self.turn_to(number)? {
+            return Err(io::Error::from(ErrorKind::NotFound));
+        }
+        let Some(opened) = self.opened.as_mut() else {
+            return Err(io::Error::from(ErrorKind::NotFound));
+        };
+        // (bytes of zero would stand between)
+        if opened.size < at {
+            return Err(io::Error::from(ErrorKind::InvalidInput));
+        }
+        opened.file.write_all_at(bytes, at as u64)?;
+        opened.size = opened.size.max(at.saturating_add(bytes.len()));
+        Ok(())
+    }
+
+    /// Cuts a file to a length, where it is longer.
+    pub(crate) fn cut(&mut self, number: u64, len: usize) -> io::Result<()> {
+        if !self.turn_to(number)? {
+            return Ok(());
+        }
+        let Some(opened) = self.opened.as_mut() else {
+            return Ok(());
+        };
+        if len < opened.file.metadata()?.len() as usize {
+            opened.file.set_len(len as u64)?;
+        }
+        opened.size = opened.file.metadata()?.len() as usize;
+        Ok(())
     }
 
     /// How many bytes a file has; 0 where there is none.
@@ -226,6 +283,17 @@ impl<'a, R: Files<File = File> + AllocGlobal> Shelf<'a, R> {
             Some(file) => read_from(alloc, file, at, len),
             None => Ok(Vec::new(alloc)),
         }
+    }
+
+    /// Gives up the room that the folder keeps free in its file `reserve`. False: it keeps none.
+    pub(crate) fn give_up_room(&self) -> io::Result<bool> {
+        let path = format!(in self.rt.alloc(); "{}/reserve", self.path)?;
+        let file = OpenOptions::new().write(true).open(self.rt, path.as_str())?;
+        if file.metadata()?.len() == 0 {
+            return Ok(false);
+        }
+        file.set_len(0)?;
+        Ok(true)
     }
 
     // How many bytes a file has that may not be there any more.

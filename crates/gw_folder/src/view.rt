@@ -1,8 +1,8 @@
 //! A folder that is looked at and not changed.
-use crate::failure::{Asked, Failure, OpenFault};
+use crate::failure::{Asked, Failure, OpenFault, or_failure};
 use crate::folder::disk_fault;
 use crate::layer::Layer;
-use crate::opening::{each_number, lock_shared};
+use crate::opening::{each_number, lock_shared, open_folder};
 use crate::shelf::{Shelf, widened};
 use gw_log::{Calls, DiskFault};
 use std::alloc::Global;
@@ -39,6 +39,21 @@ impl<'a, R: Files<File = File> + AllocGlobal + Clone + Drop> FolderView<'a, R> {
             alloc,
             shelf,
             numbers,
+            sheets: Vec::new(alloc),
+        })
+    }
+}
+
+impl<'a, R: Files<File = File> + AllocGlobal + Clone + Drop> FolderView<'a, R> {
+    /// Looks at the folder at this path, which this process has locked and writes in. What lies below the end that counts doesn't change any more.
+    pub fn beside(rt: &'a R, path: &str) -> Result<Self, OpenFault> {
+        let alloc = rt.alloc();
+        let folder = or_failure(Asked::Open, None, open_folder(rt, path))?;
+        let shelf = Shelf::new(rt, String::from_str(alloc, path)?, folder, false);
+        Ok(FolderView {
+            alloc,
+            shelf,
+            numbers: Vec::new(alloc),
             sheets: Vec::new(alloc),
         })
     }

@@ -1,4 +1,2 @@
-pub mod Growing
-pub mod Turning
 pub mod Passing
 pub mod Naming

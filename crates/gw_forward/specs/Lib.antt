@@ -1,6 +1,4 @@
 pub mod Faults
-pub mod Known
 pub mod Outboxes
-pub mod Spools
 pub mod Forwards
 pub mod own

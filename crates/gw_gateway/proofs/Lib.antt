@@ -3,3 +3,4 @@ pub mod Joining
 pub mod Answering
 pub mod Naming
 pub mod Routing
+pub mod Crossing

@@ -1,12 +1,12 @@
 //! What lies under the lock of a gateway's journal.
-ghost use Rattle.std.specs.Prelude.{◌≡◌, ◌↔◌, ◌⊎◌, ◌≤◌, ◌+◌, length, map, IfOk, IfSome, IsErrOf, IsNone, IsSome, OnErr, OnOk, Some};
+ghost use Rattle.std.specs.Prelude.{◌≡◌, ◌↔◌, ◌⊎◌, ◌≤◌, ◌+◌, length, map, min, IfOk, IfSome, IsErrOf, IsNone, IsSome, OnErr, OnOk, Some};
 ghost use Rattle.std.specs.Arc.{arc_value};
 ghost use mathlib.Core.List.{IsPrefix};
 ghost use Rattle.gw_due.specs.Events as events;
 ghost use Rattle.gw_due.specs.Spelling as spelling;
 ghost use Rattle.gw_journal.specs.Logs.{Confirms, HasGrown, IsAt, IsIdle, log_in};
 ghost use Rattle.gw_ledger.specs.Accepting.{IsInForce};
-ghost use Rattle.gw_ledger.specs.Ledgers.{IsMargin, Tells};
+ghost use Rattle.gw_ledger.specs.Ledgers.{IsMargin, Tells, needed_from};
 ghost use Rattle.gw_ledger.specs.Putting.{timed, with_storage};
 ghost use Rattle.gw_plan.specs.Seen.{receiver_value};
 ghost use Rattle.gw_gateway.specs.Faults.{of_journal};
@@ -270,6 +270,10 @@ impl<J: Naming, S: Storage + Drop> Books<J> for Office<J, S> {
         self.ledger.fault()
     }
 
+    fn count(&self) -> u64 {
+        self.ledger.count()
+    }
+
     fn receipt(&self, ticket: &Ticket<J>) -> Option<Receipt<J>>
         ensures none { IsNone result ↔ self.now.ledger.desk.settled ≤ ticket.now.place }
         ensures place { IfSome result (λ r. r.place ≡ ticket.now.place) }
@@ -283,6 +287,9 @@ impl<J: Naming, S: Storage + Drop> Books<J> for Office<J, S> {
         ensures seen { IfSome result (λ job. job.history ≡ self.old.ledger.desk.history) }
         ensures told { IfSome result (λ job. IfSome job.next
             (Tells (log_in J.before self.old.ledger.desk.history).records)) }
+        // Nothing goes that stands where something is left for a receiver, or behind that, or that is kept otherwise.
+        ensures kept { IfSome result (λ job. IfSome job.next (λ _.
+            job.keep ≡ min self.old.ledger.keep (needed_from self.old.ledger.state))) }
         ensures plan { self.new.current.plan ≡ self.old.current.plan }
     {
         let job = self.ledger.take(alloc)?;

@@ -10,10 +10,10 @@ use Rattle.gw_journal.proofs.Logging.{take_front, take_all}
 take_exactly : (n : ℕ) (xs ys : List (List ℕ)) → n ≡ length xs → take n (xs ++ ys) ≡ xs
 take_exactly n xs ys is = take_front n xs ys (omega (arith, is)) ∙ ap (λ m. take m xs) is ∙ take_all xs
 
-module _ (tells : List (List ℕ) → List ℕ → Type 0) where
+module _ (tells : List (List ℕ) → List ℕ → Type 0) (spares : List (List ℕ) → ℕ → Type 0) where
   pub tells_last : (id : ℕ) (files : Files) (rows all : List (List ℕ))
       → ((from : Origin) (head : Head) (records : List (List ℕ)) → IsLog id files from head records → AreOfLast from head records rows)
-      → IsKept tells id files all → EndsWith tells all (last_of rows)
+      → IsKept tells spares id files all → EndsWith tells all (last_of rows)
   tells_last id files rows all gives k =
       let a = gives k.from k.head k.kept k.log in
       let gone = k.covers.gone in
@@ -27,7 +27,7 @@ module _ (tells : List (List ℕ) → List ℕ → Type 0) where
   pub leaves_kept : {D : Type 0} (moment : D → ℕ) (left_since : D → ℕ → Files → Type 0) (id : ℕ) (files : Files) (old new : D)
       → ((from : Origin) (head : Head) (records : List (List ℕ)) → IsLog id files from head records
       → LeavesOnly moment left_since old new (λ c. IsLog id c from head records))
-      → (all : List (List ℕ)) → IsKept tells id files all → LeavesOnly moment left_since old new (λ c. IsKept tells id c all)
+      → (all : List (List ℕ)) → IsKept tells spares id files all → LeavesOnly moment left_since old new (λ c. IsKept tells spares id c all)
   leaves_kept moment left_since id files old new run all k =
-      weaker moment left_since old new (λ c. IsLog id c k.from k.head k.kept) (λ c. IsKept tells id c all)
+      weaker moment left_since old new (λ c. IsLog id c k.from k.head k.kept) (λ c. IsKept tells spares id c all)
       (λ c log. record { from = k.from; head = k.head; kept = k.kept; covers = k.covers; log = log }) (run k.from k.head k.kept k.log)

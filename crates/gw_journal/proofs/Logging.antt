@@ -6,7 +6,7 @@ use Rattle.std.proofs.lemmas.List.{map-append, length-map}
 use mathlib.Core.List.{IsPrefix}
 use Rattle.gw_journal.specs.declared.event.Event.{Event}
 use Rattle.gw_journal.specs.declared.event.Event.TheVariants.{Put, Synced, Read}
-use Rattle.gw_journal.specs.Logs.{Log, opened, next, after, log_in, records_of, IsLater, IsAt, IsStored, Fits, AreFit, Keeps, AllStand, IsTrue, IsDone, JobState}
+use Rattle.gw_journal.specs.Logs.{Log, opened, next, after, log_in, records_of, IsLater, IsAt, IsStored, Fits, AreFit, Keeps, AllStand, IsTrue, IsJob, IsDone, JobState}
 
 -- ---- lists
 
@@ -24,20 +24,6 @@ drop_front : {A : Type 0} (n : ℕ) (xs ys : List A) → n ≤ length xs → dro
 drop_front zero xs ys le = refl
 drop_front (suc n) [] ys le = absurd (omega arith)
 drop_front (suc n) (x ∷ xs) ys le = drop_front n xs ys (omega arith)
-
--- the first and those behind them, up to a number
-pub joined : {A : Type 0} (m n : ℕ) (xs : List A) → m ≤ n → take m xs ++ drop m (take n xs) ≡ take n xs
-joined zero n [] le = refl
-joined zero n (x ∷ xs) le = refl
-joined (suc m) zero xs le = absurd (omega arith)
-joined (suc m) (suc n) [] le = refl
-joined (suc m) (suc n) (x ∷ xs) le = ap (λ l. x ∷ l) (joined m n xs (omega arith))
-
-none_past : {A : Type 0} (n : ℕ) (xs : List A) → drop n (take n xs) ≡ []
-none_past zero [] = refl
-none_past zero (x ∷ xs) = refl
-none_past (suc n) [] = refl
-none_past (suc n) (x ∷ xs) = none_past n xs
 
 pub take_all : {A : Type 0} (xs : List A) → take (length xs) xs ≡ xs
 take_all [] = refl
@@ -123,26 +109,18 @@ stored_same before one other place synced bytes less le here p =
 
 -- ---- the desk
 
-module _ {S : Type 0} (stands : S → List (List ℕ) → List (List ℕ) → Type 0) (before : List (List ℕ)) where
-  -- what the storage keeps is the same by a later journal, and by counts that are equal
-  keeps_same : (s : S) (settled given : ℕ) (log new : Log) → take settled new.records ≡ take settled log.records → take given new.records ≡ take given log.records
-      → Keeps stands s settled given log → Keeps stands s settled given new
-  keeps_same s settled given log new first all keeps =
-      subst (λ rs. stands s rs (drop settled (take given new.records))) (sym first) (subst (λ rs. stands s (take settled log.records) (drop settled rs)) (sym all) keeps)
+module _ {S : Type 0} (stands : S → List (List ℕ) → Type 0) (before : List (List ℕ)) where
+  -- what the storage keeps is the same by a later journal
+  keeps_later : (s : S) (given : ℕ) (log new : Log) → IsLater log new → given ≤ length log.records → Keeps stands s given log → Keeps stands s given new
+  keeps_later s given log new l within keeps = subst (stands s) (sym (ap (take given) l.records ∙ take_front given log.records l.more within)) keeps
 
-  keeps_later : (s : S) (settled given : ℕ) (log new : Log) → IsLater log new → settled ≤ given → given ≤ length log.records
-      → Keeps stands s settled given log → Keeps stands s settled given new
-  keeps_later s settled given log new l order within =
-      keeps_same s settled given log new (ap (take settled) l.records ∙ take_front settled log.records l.more (omega (arith, order, within)))
-      (ap (take given) l.records ∙ take_front given log.records l.more within)
-
-  still_keeps : (storage : Option S) (settled given : ℕ) (log new : Log) → IsLater log new → settled ≤ given → given ≤ length log.records
-      → IfSome storage (λ s. Keeps stands s settled given log) → IfSome storage (λ s. Keeps stands s settled given new)
-  still_keeps None settled given log new l order within keeps = tt
-  still_keeps (Some s) settled given log new l order within keeps = keeps_later s settled given log new l order within keeps
+  still_keeps : (storage : Option S) (given : ℕ) (log new : Log) → IsLater log new → given ≤ length log.records
+      → IfSome storage (λ s. Keeps stands s given log) → IfSome storage (λ s. Keeps stands s given new)
+  still_keeps None given log new l within keeps = tt
+  still_keeps (Some s) given log new l within keeps = keeps_later s given log new l within keeps
 
   pub true_opened : (s : S) (batch : List (List ℕ)) (count : ℕ) (history : List Event) → history ≡ [] → batch ≡ [] → count ≡ length before → count ≤ 2 ^ 62
-      → stands s before [] → IsTrue stands (Some s) batch count count (log_in before history)
+      → stands s before → IsTrue stands (Some s) batch count count (log_in before history)
   true_opened s batch count history none empty size few stand =
       subst (λ h. IsTrue stands (Some s) batch count count (log_in before h)) (sym none) (record {
         not_given = empty ∙ sym (ap (λ n. drop n before) size ∙ drop_all before);
@@ -151,8 +129,7 @@ module _ {S : Type 0} (stands : S → List (List ℕ) → List (List ℕ) → Ty
         synced = omega (arith, size);
         room = omega (arith, size, few);
         fit = subst AreFit (sym empty) tt;
-        keeps = subst (λ rs. stands s rs (drop count (take count before))) (sym (ap (λ n. take n before) size ∙ take_all before))
-            (subst (λ rs. stands s before rs) (sym (none_past count before)) stand);
+        keeps = subst (stands s) (sym (ap (λ n. take n before) size ∙ take_all before)) stand;
       })
 
   pub true_put : (storage : Option S) (batch more : List (List ℕ)) (given settled : ℕ) (old new : List Event) (bytes : List ℕ)
@@ -169,7 +146,7 @@ module _ {S : Type 0} (stands : S → List (List ℕ) → List (List ℕ) → Ty
         synced = t.synced;
         room = omega (arith, size, room, ap length t.not_given, length_drop given log.records, t.within);
         fit = subst AreFit (sym longer) (fit_more batch bytes t.fit fits);
-        keeps = still_keeps storage settled given log (next log (Put bytes)) l t.order t.within t.keeps;
+        keeps = still_keeps storage given log (next log (Put bytes)) l t.within t.keeps;
       })
 
   -- the place of the record that was put
@@ -182,66 +159,59 @@ module _ {S : Type 0} (stands : S → List (List ℕ) → List (List ℕ) → Ty
       ap (λ (l : Log). slice_get l.records place) (log_more before old new (Put bytes) is)
       ∙ ap (λ n. slice_get (log.records ++ bytes ∷ []) n) whole ∙ get_last log.records bytes
 
-  -- what counts, what is pending behind it, and what wasn't given are all records
-  pub given_all : (job : JobState S) (log : Log) → IsTrue stands (Some job.storage) job.batch job.given job.settled log
-      → (take job.settled log.records ++ drop job.settled (take job.given log.records)) ++ job.batch ≡ log.records
-  given_all job log t =
-      ap (λ rs. rs ++ job.batch) (joined job.settled job.given log.records t.order)
-      ∙ ap (λ rs. take job.given log.records ++ rs) t.not_given ∙ take-append-drop job.given log.records
+  -- what the storage has and what it is given are all records
+  pub given_all : (tells : List (List ℕ) → List ℕ → Type 0) (spares : List (List ℕ) → ℕ → Type 0) (job : JobState S) (log : Log) → IsJob stands tells spares job log
+      → take job.given log.records ++ job.batch ≡ log.records
+  given_all tells spares job log j = ap (λ rs. take job.given log.records ++ rs) j.all ∙ take-append-drop job.given log.records
 
-  pub given_count : (job : JobState S) (log : Log) (now : ℕ) → IsTrue stands (Some job.storage) job.batch job.given job.settled log
+  pub given_count : (tells : List (List ℕ) → List ℕ → Type 0) (spares : List (List ℕ) → ℕ → Type 0) (job : JobState S) (log : Log) (now : ℕ) → IsJob stands tells spares job log
       → now ≡ job.given + length job.batch → now ≡ length log.records
-  given_count job log now t is = omega (arith, is, ap length t.not_given, length_drop job.given log.records, t.within)
+  given_count tells spares job log now j is = omega (arith, is, ap length j.all, length_drop job.given log.records, j.within)
 
-  -- the storage with a batch that it was given, if only an empty one
-  pub done_put : (job : JobState S) (s : S) (now : ℕ) (log : Log) → IsTrue stands (Some job.storage) job.batch job.given job.settled log
-      → now ≡ job.given + length job.batch
-      → stands s (take job.settled log.records ++ drop job.settled (take job.given log.records)) job.batch
-      → IsDone stands (record { storage = s; given = now; settled = job.given; history = job.history }) log
-  done_put job s now log t is stand =
-      let whole = given_count job log now t is in
+  -- the storage with a batch that it was given
+  pub done_all : (tells : List (List ℕ) → List ℕ → Type 0) (spares : List (List ℕ) → ℕ → Type 0) (job : JobState S) (s : S) (now : ℕ) (log : Log) → IsJob stands tells spares job log
+      → now ≡ job.given + length job.batch → stands s (take job.given log.records ++ job.batch)
+      → IsDone stands (record { storage = s; given = now; history = job.history }) log
+  done_all tells spares job s now log j is stand =
+      let whole = given_count tells spares job log now j is in
       record {
         all = whole;
-        order = omega (arith, is);
-        keeps = subst (λ rs. stands s rs (drop job.given (take now log.records))) (joined job.settled job.given log.records t.order)
-            (subst (λ rs. stands s (take job.settled log.records ++ drop job.settled (take job.given log.records)) rs)
-            (t.not_given ∙ sym (ap (λ rs. drop job.given rs) (ap (λ n. take n log.records) whole ∙ take_all log.records))) stand);
-      }
-
-  -- with all of it, behind which the next file begins
-  pub done_turn : (job : JobState S) (s : S) (now : ℕ) (log : Log) → IsTrue stands (Some job.storage) job.batch job.given job.settled log
-      → now ≡ job.given + length job.batch
-      → stands s ((take job.settled log.records ++ drop job.settled (take job.given log.records)) ++ job.batch) []
-      → IsDone stands (record { storage = s; given = now; settled = now; history = job.history }) log
-  done_turn job s now log t is stand =
-      let whole = given_count job log now t is in
-      let all : take now log.records ≡ log.records = ap (λ n. take n log.records) whole ∙ take_all log.records in
-      record {
-        all = whole;
-        order = omega arith;
-        keeps = subst (λ rs. stands s rs (drop now (take now log.records))) (given_all job log t ∙ sym all)
-            (subst (λ rs. stands s ((take job.settled log.records ++ drop job.settled (take job.given log.records)) ++ job.batch) rs)
-            (sym (none_past now log.records)) stand);
+        keeps = subst (stands s) (given_all tells spares job log j ∙ sym (ap (λ n. take n log.records) whole ∙ take_all log.records)) stand;
       }
 
   -- it comes back
-  pub true_back : (storage : Option S) (s : S) (batch : List (List ℕ)) (given settled was : ℕ) (part old new : List Event)
-      → IsPrefix part old → new ≡ old ++ Synced settled ∷ [] → was ≤ settled
-      → IsDone stands (record { storage = s; given = given; settled = settled; history = part }) (log_in before part)
-      → IsTrue stands storage batch given was (log_in before old)
-      → IsTrue stands (Some s) batch given settled (log_in before new)
-  true_back storage s batch given settled was part old new p is more done t =
+  pub true_back : (storage : Option S) (s : S) (batch : List (List ℕ)) (given settled : ℕ) (part old new : List Event)
+      → IsPrefix part old → new ≡ old ++ Synced given ∷ []
+      → IsDone stands (record { storage = s; given = given; history = part }) (log_in before part)
+      → IsTrue stands storage batch given settled (log_in before old)
+      → IsTrue stands (Some s) batch given given (log_in before new)
+  true_back storage s batch given settled part old new p is done t =
       let log = log_in before old in
       let l = log_later before part old p in
-      subst (λ x. IsTrue stands (Some s) batch given settled x) (sym (log_more before old new (Synced settled) is)) (record {
+      subst (λ x. IsTrue stands (Some s) batch given given x) (sym (log_more before old new (Synced given) is)) (record {
         not_given = t.not_given;
         within = t.within;
-        order = done.order;
-        synced = omega (arith, t.synced, more);
+        order = omega arith;
+        synced = omega (arith, t.synced, t.order);
         room = t.room;
         fit = t.fit;
-        keeps = keeps_later s settled given (log_in before part) log l done.order (omega (arith, done.all)) done.keeps;
+        keeps = keeps_later s given (log_in before part) log l (omega (arith, done.all)) done.keeps;
       })
+
+  -- what a thread takes
+  pub job_taken : (tells : List (List ℕ) → List ℕ → Type 0) (spares : List (List ℕ) → ℕ → Type 0) (s : S) (batch : List (List ℕ)) (given settled : ℕ) (history : List Event)
+      → IsTrue stands (Some s) batch given settled (log_in before history)
+      → IsJob stands tells spares (record { storage = s; batch = batch; given = given; history = history; next = None; keep = 0 }) (log_in before history)
+  job_taken tells spares s batch given settled history t = record {
+    all = t.not_given;
+    within = t.within;
+    synced = omega (arith, t.synced, t.order);
+    room = t.room;
+    fit = t.fit;
+    keeps = t.keeps;
+    told = tt;
+    spared = tt;
+  }
 
   -- the records of a receipt stand in the storage, where that is here
   pub stand_there : (storage : Option S) (batch : List (List ℕ)) (given settled : ℕ) (history seen_of : List Event)
@@ -251,10 +221,9 @@ module _ {S : Type 0} (stands : S → List (List ℕ) → List (List ℕ) → Ty
   stand_there (Some s) batch given settled history seen_of t p = λ place bytes stored.
       let now = stored_later place bytes (log_in before seen_of) (log_in before history) (log_later before seen_of history p) stored in
       record {
-        these = take settled (log_in before history).records;
-        pending = drop settled (take given (log_in before history).records);
+        these = take given (log_in before history).records;
         stand = t.keeps;
-        there = get_take settled (log_in before history).records place bytes (omega (arith, now.synced, t.synced)) now.there;
+        there = get_take given (log_in before history).records place bytes (omega (arith, now.synced, t.synced, t.order)) now.there;
       }
 
 -- what counts as synced goes on

@@ -85,19 +85,18 @@ AreFit records = AllByRecursion Fits records
 
 -- ---- the storage
 
--- Of the records of a journal the storage was given the first, this many. Of these the settled ones count, and the others are pending
-abbrev pub Keeps : {S : Type 0} → (S → List (List ℕ) → List (List ℕ) → Type 0) → S → (settled given : ℕ) → Log → Type 0
-Keeps stands s settled given log = stands s (take settled log.records) (drop settled (take given log.records))
+-- Of the records of a journal the storage has the first, this many
+abbrev pub Keeps : {S : Type 0} → (S → List (List ℕ) → Type 0) → S → (given : ℕ) → Log → Type 0
+Keeps stands s given log = stands s (take given log.records)
 
 -- it stands at this place of the storage, whatever crash comes
-pub record StandsAt {S : Type 0} (stands : S → List (List ℕ) → List (List ℕ) → Type 0) (s : S) (place : ℕ) (bytes : List ℕ) : Type 0 where
+pub record StandsAt {S : Type 0} (stands : S → List (List ℕ) → Type 0) (s : S) (place : ℕ) (bytes : List ℕ) : Type 0 where
   pub these : List (List ℕ)
-  pub pending : List (List ℕ)
-  pub stand : stands s these pending
+  pub stand : stands s these
   pub there : IsIn place bytes these
 
 -- each stands at its place of the storage
-abbrev pub AllStand : {S : Type 0} → (S → List (List ℕ) → List (List ℕ) → Type 0) → Log → S → Type 0
+abbrev pub AllStand : {S : Type 0} → (S → List (List ℕ) → Type 0) → Log → S → Type 0
 AllStand stands log s = (place : ℕ) (bytes : List ℕ) → IsStored place bytes log → StandsAt stands s place bytes
 
 -- ---- through a crash
@@ -111,15 +110,18 @@ IsOneOf these (those ∷ others) = (these ≡ those) ⊎ IsOneOf these others
 abbrev pub AreAmong : List (List (List ℕ)) → List (List (List ℕ)) → Type 0
 AreAmong some others = AllByRecursion (λ these. IsOneOf these others) some
 
--- Of the records of a journal these count, and those that were given are pending: a crash leaves the ones or the others.
--- Where a file is begun behind them, with this checkpoint, it may leave all
-abbrev pub outcomes : Option (List ℕ) → (settled given : ℕ) → List (List ℕ) → List (List (List ℕ))
-outcomes None settled given records = take settled records ∷ take given records ∷ []
-outcomes (Some checkpoint) settled given records = take settled records ∷ take given records ∷ records ∷ []
+-- Of the records of a journal the storage has the first, this many, and is given the others: a crash leaves the ones or all
+abbrev pub outcomes : (given : ℕ) → List (List ℕ) → List (List (List ℕ))
+outcomes given records = take given records ∷ records ∷ []
 
 -- each record that is on the disk by this journal stands at its place in each of these
 abbrev pub NoneIsLost : Log → List (List (List ℕ)) → Type 0
 NoneIsLost log left = (place : ℕ) (bytes : List ℕ) → IsStored place bytes log → AllByRecursion (λ records. IsIn place bytes records) left
+
+-- Of the records of a journal a crash leaves these: all that are on the disk, and maybe some of those behind them
+pub record IsLeft (log : Log) (left : List (List ℕ)) : Type 0 where
+  pub kept : IsPrefix (take log.synced log.records) left
+  pub put : IsPrefix left log.records
 
 -- a call answered with a fault, and left the storage so
 pub record HasFailed {S : Type 0} (fails : S → S → JournalFault → Type 0) (new : S) (fault : JournalFault) : Type 0 where
@@ -128,7 +130,7 @@ pub record HasFailed {S : Type 0} (fails : S → S → JournalFault → Type 0) 
 
 -- ---- what lies under the lock, and what a thread takes from there
 
--- the storage, where no thread has it; the records that it wasn't given; how many it was given, and how many of them count; the history;
+-- the storage, where no thread has it; the records that it wasn't given; how many it was given, and how many of them are on the disk; the history;
 -- why nothing more is asked of the journal, if that is so
 pub record DeskState (S : Type 0) : Type 0 where
   pub storage : Option S
@@ -150,12 +152,12 @@ IsFull desk = (2 ^ 62 ≤ desk.given + length desk.batch) ⊎ IsSpent desk
 abbrev pub HasGrown : {S : Type 0} → DeskState S → DeskState S → Type 0
 HasGrown old new = length old.history < length new.history
 
--- nothing is asked of the storage: there was a fault, or a thread has it, or it has all records and they count
+-- nothing is asked of the storage: there was a fault, or a thread has it, or it has all records
 abbrev pub IsIdle : {S : Type 0} → DeskState S → Type 0
-IsIdle desk = IsSome desk.fault ⊎ IsNone desk.storage ⊎ ((desk.batch ≡ []) × (desk.given ≡ desk.settled))
+IsIdle desk = IsSome desk.fault ⊎ IsNone desk.storage ⊎ (desk.batch ≡ [])
 
 -- the counts and the records are those of the journal
-pub record IsTrue {S : Type 0} (stands : S → List (List ℕ) → List (List ℕ) → Type 0) (storage : Option S) (batch : List (List ℕ))
+pub record IsTrue {S : Type 0} (stands : S → List (List ℕ) → Type 0) (storage : Option S) (batch : List (List ℕ))
     (given settled : ℕ) (log : Log) : Type 0 where
   pub not_given : batch ≡ drop given log.records
   pub within : given ≤ length log.records
@@ -163,45 +165,48 @@ pub record IsTrue {S : Type 0} (stands : S → List (List ℕ) → List (List �
   pub synced : log.synced ≤ settled
   pub room : length log.records ≤ 2 ^ 62
   pub fit : AreFit batch
-  pub keeps : IfSome storage (λ s. Keeps stands s settled given log)
+  pub keeps : IfSome storage (λ s. Keeps stands s given log)
 
 -- The storage with a batch that it is to be given, and what of the history was seen when both were taken.
--- Where the next file is to be begun, its checkpoint
+-- Where the next file is to be begun, its checkpoint, and the place below which records are needed no more
 pub record JobState (S : Type 0) : Type 0 where
   pub storage : S
   pub batch : List (List ℕ)
   pub given : ℕ
-  pub settled : ℕ
   pub history : List Event
   pub next : Option (List ℕ)
+  pub keep : ℕ
 
--- the checkpoint tells of all records of the journal
-pub record IsJob {S : Type 0} (stands : S → List (List ℕ) → List (List ℕ) → Type 0) (tells : List (List ℕ) → List ℕ → Type 0) (job : JobState S)
-    (log : Log) : Type 0 where
-  pub holds : IsTrue stands (Some job.storage) job.batch job.given job.settled log
+-- the checkpoint tells of all records of the journal, and by them no record below that place is needed
+pub record IsJob {S : Type 0} (stands : S → List (List ℕ) → Type 0) (tells : List (List ℕ) → List ℕ → Type 0)
+    (spares : List (List ℕ) → ℕ → Type 0) (job : JobState S) (log : Log) : Type 0 where
+  pub all : job.batch ≡ drop job.given log.records
+  pub within : job.given ≤ length log.records
+  pub synced : log.synced ≤ job.given
+  pub room : length log.records ≤ 2 ^ 62
+  pub fit : AreFit job.batch
+  pub keeps : Keeps stands job.storage job.given log
   pub told : IfSome job.next (tells log.records)
+  pub spared : IfSome job.next (λ _. spares log.records job.keep)
 
 -- the bytes of a vector, where there is one
 abbrev pub bytes_of : Option (Vec ℕ Global) → Option (List ℕ)
 bytes_of None = None
 bytes_of (Some v) = Some v.items
 
--- the storage, how many records it was given, how many of them count, and what of the history was seen
+-- the storage, how many records it was given, and what of the history was seen
 pub record DoneState (S : Type 0) : Type 0 where
   pub storage : S
   pub given : ℕ
-  pub settled : ℕ
   pub history : List Event
 
 -- the storage has all of them
-pub record IsDone {S : Type 0} (stands : S → List (List ℕ) → List (List ℕ) → Type 0) (done : DoneState S) (log : Log) : Type 0 where
+pub record IsDone {S : Type 0} (stands : S → List (List ℕ) → Type 0) (done : DoneState S) (log : Log) : Type 0 where
   pub all : done.given ≡ length log.records
-  pub order : done.settled ≤ done.given
-  pub keeps : Keeps stands done.storage done.settled done.given log
+  pub keeps : Keeps stands done.storage done.given log
 
 -- what comes back is what a thread took last
 pub record ComesBack {S : Type 0} (desk : DeskState S) (done : DoneState S) : Type 0 where
   pub well : IsNone desk.fault
   pub given : done.given ≡ desk.given
-  pub more : desk.settled ≤ done.settled
   pub part : IsPrefix done.history desk.history

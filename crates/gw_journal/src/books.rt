@@ -20,6 +20,9 @@ pub trait Books<J: Naming> {
     /// Why nothing more is asked of the journal, if that is so.
     fn fault(&self) -> Option<JournalFault>;
 
+    /// How many records were put, those that the log had included.
+    fn count(&self) -> u64;
+
     /// The receipt of a record, where it is on the disk.
     fn receipt(&self, ticket: &Ticket<J>) -> Option<Receipt<J>>
         ensures place { IfSome result (λ r. r.place ≡ ticket.now.place) }
@@ -45,6 +48,10 @@ impl<J: Naming, S: Storage + Drop> Books<J> for Desk<J, S> {
 
     fn fault(&self) -> Option<JournalFault> {
         Desk::fault(self)
+    }
+
+    fn count(&self) -> u64 {
+        Desk::count(self)
     }
 
     fn receipt(&self, ticket: &Ticket<J>) -> Option<Receipt<J>> {

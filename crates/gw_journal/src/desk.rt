@@ -1,5 +1,5 @@
 //! What lies under the lock of a journal, and what threads take from it.
-ghost use Rattle.std.specs.Prelude.{◌≡◌, ◌≤◌, ◌<◌, ◌^◌, ◌⊎◌, ◌↔◌, [], IfOk, IfSome, IsErrOf, IsNone, IsSome, OnOk, OnErr, Some, IsTrue, IsFalse, length, ◌++◌, ◌∷◌};
+ghost use Rattle.std.specs.Prelude.{◌≡◌, ◌≤◌, ◌<◌, ◌^◌, ◌⊎◌, ◌↔◌, ◌+◌, [], IfOk, IfSome, IsErrOf, IsNone, IsSome, OnOk, OnErr, Some, IsTrue, IsFalse, length, ◌++◌, ◌∷◌};
 ghost use mathlib.Core.List.{IsPrefix};
 ghost use Rattle.gw_journal.specs.declared.event.Event.TheVariants.{Put, Synced, Read};
 ghost use Rattle.gw_journal.specs.Logs.{AllStand, ComesBack, Confirms, Fits, HasGrown, IsAt, IsFull, IsIdle, IsSpent, log_in};
@@ -145,11 +145,11 @@ fn stored<J: Naming>(ticket: &Ticket<J>, front: &Front<J>, synced: u64) -> Optio
 }
 
 impl<J: Naming, S: Storage + Drop> Desk<J, S> {
-    /// The journal over a storage that has this many records, and none pending.
+    /// The journal over a storage that has this many records.
     #[tactic(auto, using(crate::proofs::Logging::true_opened))]
     pub fn open(alloc: Global, opened: Opened, storage: S, count: u64) -> Desk<J, S>
         requires book { opened.seen.book ≡ J.book }
-        requires stands { S.stands storage J.before [] }
+        requires stands { S.stands storage J.before }
         requires count { count ≡ length J.before }
         ensures history { result.history ≡ [] }
         ensures full { (result.fault ≡ Some JournalFault.Full) ↔ 2 ^ 62 < count }
@@ -174,6 +174,13 @@ impl<J: Naming, S: Storage + Drop> Desk<J, S> {
         ensures { result ≡ self.now.fault }
     {
         self.fault
+    }
+
+    /// How many records were put, those that the log had included.
+    pub fn count(&self) -> u64
+        ensures { IsNone self.now.fault → result ≡ self.now.given + length self.now.batch }
+    {
+        self.given.saturating_add(self.batch.len() as u64)
     }
 
     /// The whole history.
@@ -237,7 +244,8 @@ impl<J: Naming, S: Storage + Drop> Desk<J, S> {
         })
     }
 
-    /// The storage, with what it wasn't given yet. None: another thread has it, or all that was put counts, or there was a fault.
+    /// The storage, with what it wasn't given yet. None: another thread has it, or it has all that was put, or there was a fault.
+    #[tactic(auto, using(crate::proofs::Logging::job_taken))]
     pub fn take(&mut self, alloc: Global) -> Option<Job<J, S>>
         ensures same { self.new.history ≡ self.old.history }
         ensures seen { IfSome result (λ job. job.history ≡ self.old.history) }
@@ -245,7 +253,7 @@ impl<J: Naming, S: Storage + Drop> Desk<J, S> {
         ensures none { IsNone result ↔ IsIdle self.old }
         ensures fault { self.new.fault ≡ self.old.fault }
     {
-        if self.fault.is_some() || self.batch.is_empty() && self.given == self.settled {
+        if self.fault.is_some() || self.batch.is_empty() {
             return None;
         }
         let storage = self.storage.take()?;
@@ -255,9 +263,8 @@ impl<J: Naming, S: Storage + Drop> Desk<J, S> {
             storage,
             batch: replace(&mut self.batch, Vec::new(alloc)),
             given,
-            settled: self.settled,
             front: self.history.front().again(),
-            oldest: 0,
+            keep: 0,
             checkpoint: None,
         })
     }
@@ -267,10 +274,7 @@ impl<J: Naming, S: Storage + Drop> Desk<J, S> {
     fn is_ours(&self, done: &Done<J, S>) -> bool
         ensures { IsTrue result ↔ ComesBack self.now done.now }
     {
-        self.fault.is_none()
-            && done.given == self.given
-            && done.settled >= self.settled
-            && done.front.begins(self.history.front())
+        self.fault.is_none() && done.given == self.given && done.front.begins(self.history.front())
     }
 
     /// The storage comes back.
@@ -278,8 +282,8 @@ impl<J: Naming, S: Storage + Drop> Desk<J, S> {
         ensures later { IsPrefix self.old.history self.new.history }
         ensures back { IsNone self.new.fault → self.new ≡ record self.old {
           storage = Some done.storage;
-          settled = done.settled;
-          history = self.old.history ++ Synced done.settled ∷ [];
+          settled = done.given;
+          history = self.old.history ++ Synced done.given ∷ [];
         } }
         ensures faulty { IsSome self.old.fault → self.new.fault ≡ self.old.fault }
         ensures disk { self.new.fault ≡ Some JournalFault.Disk →
@@ -291,17 +295,13 @@ impl<J: Naming, S: Storage + Drop> Desk<J, S> {
             self.fail(JournalFault::Disk);
             return;
         }
-        let Done {
-            storage,
-            settled,
-            ..
-        } = done;
-        if !self.history.add(&Syncing { count: settled }) {
+        let Done { storage, given, .. } = done;
+        if !self.history.add(&Syncing { count: given }) {
             self.fault = Some(JournalFault::Full);
             return;
         }
         self.storage = Some(storage);
-        self.settled = settled;
+        self.settled = given;
     }
 
     /// The storage didn't come back: this is why. Only the first fault is kept.
@@ -343,6 +343,14 @@ impl<J: Naming, S: Storage + Drop> Desk<J, S> {
         ensures stored { IfSome result (λ r. Confirms J.before ticket.now r) }
     {
         stored(ticket, self.history.front(), self.settled)
+    }
+
+    /// Whether all records up to this place are on the disk, by what is known.
+    pub fn is_stored(&self, place: u64) -> bool
+        ensures test { IsTrue result ↔ place < self.now.settled }
+        ensures stored { IsTrue result → place < (log_in J.before self.now.history).synced }
+    {
+        place < self.settled
     }
 
     /// Gives the storage back, where it is here and the receipt is one of this journal: its record stands at its place.

@@ -1,5 +1,5 @@
 //! What a thread takes from under the lock, to bring it to the disk with the lock free.
-ghost use Rattle.std.specs.Prelude.{◌≡◌, ◌++◌, ◌∷◌, [], is_some, IfOk, IfErr, IsNone, IsSome, OnOk, Some, ℕ, List};
+ghost use Rattle.std.specs.Prelude.{◌≡◌, ◌++◌, ◌∷◌, [], is_some, length, IfOk, IfErr, IsNone, OnOk, Some, ℕ, List};
 ghost use Rattle.gw_journal.specs.Logs.{AreFit, HasFailed, NoneIsLost, log_in, outcomes, records_of};
 
 use crate::book::{Front, Naming};
@@ -10,15 +10,14 @@ use std::marker::Model;
 /// The most files that are removed for one file that is begun.
 const MOST: u8 = 4;
 
-/// The storage with a batch that it is to be given. An empty one: what is pending is to count. It may have to begin the next file too.
+/// The storage with a batch that it is to be given. It may have to begin the next file too.
 #[derive(Drop)]
 pub struct Job<J: Naming, S: Storage + Drop> {
     pub(crate) storage: S,
     pub(crate) batch: Vec<Vec<u8>>,
     pub(crate) given: u64,
-    pub(crate) settled: u64,
     pub(crate) front: Front<J>,
-    pub(crate) oldest: u64,
+    pub(crate) keep: u64,
     pub(crate) checkpoint: Option<Vec<u8>>,
 }
 
@@ -31,18 +30,18 @@ impl<J: Naming, S: Storage + Drop> Model for Job<J, S> {
       storage = j.storage;
       batch = records_of j.batch.items;
       given = j.given;
-      settled = j.settled;
       history = j.front;
       next = bytes_of j.checkpoint;
+      keep = j.keep;
     } };
 
-    ghost invariant = { λ j. IsJob S.stands S.tells (record {
+    ghost invariant = { λ j. IsJob S.stands S.tells S.spares (record {
       storage = j.storage;
       batch = records_of j.batch.items;
       given = j.given;
-      settled = j.settled;
       history = j.front;
       next = bytes_of j.checkpoint;
+      keep = j.keep;
     }) (log_in J.before j.front) };
 }
 
@@ -51,7 +50,6 @@ impl<J: Naming, S: Storage + Drop> Model for Job<J, S> {
 pub struct Done<J: Naming, S: Storage + Drop> {
     pub(crate) storage: S,
     pub(crate) given: u64,
-    pub(crate) settled: u64,
     pub(crate) front: Front<J>,
 }
 
@@ -60,39 +58,24 @@ impl<J: Naming, S: Storage + Drop> Model for Done<J, S> {
 
     ghost Value = { DoneState S };
 
-    ghost view = { λ d. record { storage = d.storage; given = d.given; settled = d.settled; history = d.front } };
+    ghost view = { λ d. record { storage = d.storage; given = d.given; history = d.front } };
 
-    ghost invariant = { λ d. IsDone S.stands (record { storage = d.storage; given = d.given; settled = d.settled; history = d.front })
+    ghost invariant = { λ d. IsDone S.stands (record { storage = d.storage; given = d.given; history = d.front })
         (log_in J.before d.front) };
 }
 
 impl<J: Naming, S: Storage + Drop> Done<J, S> {
-    /// The number of the storage's last file, and how many of its bytes count.
+    /// The number of the storage's last file, and how many bytes it has. All of them count.
     pub fn tail(&self) -> (u64, usize) {
         self.storage.tail()
     }
 }
 
-// Gives a storage a batch. With an empty one it settles.
-fn bring<S: Storage>(storage: &mut S, batch: &[Vec<u8>]) -> Result<(), JournalFault>
-    requires { AreFit (records_of batch.now) }
-    ensures ok { (these those : List (List ℕ)) → S.stands storage.old these those →
-        OnOk result (S.stands storage.new (these ++ those) (records_of batch.now)) }
-    ensures any_moment { (these those : List (List ℕ)) → S.stands storage.old these those →
-        S.leaves storage.old storage.new (these ∷ (these ++ those) ∷ []) }
-    ensures err { IfErr result (λ fault. S.fails storage.old storage.new fault) }
-{
-    if batch.is_empty() {
-        return storage.settle();
-    }
-    storage.put(batch)
-}
-
-// Removes the first files of those that are needed no more.
+// Removes the first files of those of which no record is needed.
 fn retire<S: Storage>(storage: &mut S) -> Result<(), JournalFault>
-    ensures ok { (these those : List (List ℕ)) → S.stands storage.old these those →
-        OnOk result (S.stands storage.new these those) }
-    ensures any_moment { (these those : List (List ℕ)) → S.stands storage.old these those →
+    ensures ok { (these : List (List ℕ)) → S.stands storage.old these →
+        OnOk result (S.stands storage.new these) }
+    ensures any_moment { (these : List (List ℕ)) → S.stands storage.old these →
         S.leaves storage.old storage.new (these ∷ []) }
     ensures err { IfErr result (λ fault. HasFailed S.fails storage.new fault) }
 {
@@ -108,20 +91,20 @@ fn retire<S: Storage>(storage: &mut S) -> Result<(), JournalFault>
 fn turn<S: Storage>(
     storage: &mut S,
     batch: &[Vec<u8>],
-    oldest: u64,
+    keep: u64,
     checkpoint: &[u8],
 ) -> Result<(), JournalFault>
     requires { AreFit (records_of batch.now) }
-    ensures ok { (these those : List (List ℕ)) → S.stands storage.old these those →
-        S.tells ((these ++ those) ++ records_of batch.now) checkpoint.now →
-        OnOk result (S.stands storage.new ((these ++ those) ++ records_of batch.now) []) }
-    ensures any_moment { (these those : List (List ℕ)) → S.stands storage.old these those →
-        S.tells ((these ++ those) ++ records_of batch.now) checkpoint.now →
-        S.leaves storage.old storage.new (these ∷ (these ++ those) ∷ ((these ++ those) ++ records_of batch.now) ∷ []) }
+    ensures ok { (these : List (List ℕ)) → S.stands storage.old these →
+        S.tells (these ++ records_of batch.now) checkpoint.now → S.spares (these ++ records_of batch.now) keep →
+        OnOk result (S.stands storage.new (these ++ records_of batch.now)) }
+    ensures any_moment { (these : List (List ℕ)) → S.stands storage.old these →
+        S.tells (these ++ records_of batch.now) checkpoint.now → S.spares (these ++ records_of batch.now) keep →
+        S.leaves storage.old storage.new (these ∷ (these ++ records_of batch.now) ∷ []) }
     ensures err { IfErr result (λ fault. HasFailed S.fails storage.new fault) }
 {
-    bring(storage, batch)?;
-    storage.begin_next(oldest, checkpoint)?;
+    storage.put(batch)?;
+    storage.begin_next(keep, checkpoint)?;
     retire(storage)
 }
 
@@ -138,18 +121,19 @@ impl<J: Naming, S: Storage + Drop> Job<J, S> {
         self.checkpoint.is_some()
     }
 
-    /// The same job, which also begins the next file behind its batch, and removes up to four that are needed no more. Its checkpoint tells of all records.
+    /// The same job, which also begins the next file behind its batch, and removes up to four of which no record is needed.
+    /// Its checkpoint tells of all records.
     ///
-    /// Files of a number below `oldest` are needed no more.
-    pub fn turning(self, oldest: u64, checkpoint: Vec<u8>) -> Job<J, S>
-        requires { S.tells (log_in J.before self.history).records checkpoint.items }
-        ensures { result ≡ record self { next = Some checkpoint.items } }
+    /// Records at places below `keep` are needed no more.
+    pub fn turning(self, keep: u64, checkpoint: Vec<u8>) -> Job<J, S>
+        requires told { S.tells (log_in J.before self.history).records checkpoint.items }
+        requires spared { S.spares (log_in J.before self.history).records keep }
+        ensures { result ≡ record self { next = Some checkpoint.items; keep = keep } }
     {
         let Job {
             storage,
             batch,
             given,
-            settled,
             front,
             ..
         } = self;
@@ -157,26 +141,25 @@ impl<J: Naming, S: Storage + Drop> Job<J, S> {
             storage,
             batch,
             given,
-            settled,
             front,
-            oldest,
+            keep,
             checkpoint: Some(checkpoint),
         }
     }
 
-    /// Gives the storage its batch, or has it settle, and begins the next file, where it is to. A crash at any moment leaves each record that there was a receipt for.
+    /// Gives the storage its batch, and begins the next file, where it is to. A crash at any moment leaves each record that there was a receipt for.
     pub fn run(self) -> Result<Done<J, S>, (JournalFault, S)>
         ensures same { IfOk result (λ done. done.history ≡ self.history) }
-        // Where the next file was begun, all that was put counts.
-        ensures settled { IsSome self.next → IfOk result (λ done. done.settled ≡ done.given) }
+        // All that was put counts.
+        ensures given { IfOk result (λ done. done.given ≡ length (log_in J.before self.history).records) }
 
         // What a crash leaves, also where the call fails: nothing of it lacks a record that there was a receipt for.
         ensures any_moment { IfOk result (λ done. S.leaves self.storage done.storage
-            (outcomes self.next self.settled self.given (log_in J.before self.history).records)) }
+            (outcomes self.given (log_in J.before self.history).records)) }
         ensures any_moment_err { IfErr result (λ e. S.leaves self.storage e.1
-            (outcomes self.next self.settled self.given (log_in J.before self.history).records)) }
+            (outcomes self.given (log_in J.before self.history).records)) }
         ensures none_is_lost { NoneIsLost (log_in J.before self.history)
-            (outcomes self.next self.settled self.given (log_in J.before self.history).records) }
+            (outcomes self.given (log_in J.before self.history).records) }
 
         // A fault is the storage's own.
         ensures err { IfErr result (λ e. HasFailed S.fails e.1 e.0) }
@@ -186,29 +169,26 @@ impl<J: Naming, S: Storage + Drop> Job<J, S> {
             storage,
             batch,
             given,
-            settled: _,
             front,
-            oldest,
+            keep,
             checkpoint,
         } = self;
         let mut storage = storage;
         let count = given + batch.len() as u64;
         match checkpoint {
-            None => match bring(&mut storage, &batch) {
+            None => match storage.put(&batch) {
                 Err(fault) => Err((fault, storage)),
                 Ok(()) => Ok(Done {
                     storage,
                     given: count,
-                    settled: given,
                     front,
                 }),
             },
-            Some(checkpoint) => match turn(&mut storage, &batch, oldest, &checkpoint) {
+            Some(checkpoint) => match turn(&mut storage, &batch, keep, &checkpoint) {
                 Err(fault) => Err((fault, storage)),
                 Ok(()) => Ok(Done {
                     storage,
                     given: count,
-                    settled: count,
                     front,
                 }),
             },

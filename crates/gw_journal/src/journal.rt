@@ -8,6 +8,7 @@ use crate::fault::JournalFault;
 use crate::storage::Storage;
 use std::alloc::Global;
 use std::marker::PhantomData;
+use std::sync::atomic::{AtomicU64, Ordering};
 use std::sync::{Condvar, Mutex, MutexGuard, Wait};
 
 /// A journal that threads share: a desk, or what has one inside, under a lock.
@@ -15,7 +16,12 @@ use std::sync::{Condvar, Mutex, MutexGuard, Wait};
 pub struct Journal<J: Naming, B: Books<J> + Drop> {
     alloc: Global,
     books: Mutex<B>,
-    news: Condvar,
+    // how many batches were begun, and how many records the last of them ends with: both change with the lock held
+    batches: AtomicU64,
+    given: AtomicU64,
+    // who waits for a batch, by its number: for the one that is written, and for the next
+    even: Condvar,
+    odd: Condvar,
     of: PhantomData<J>,
 }
 
@@ -27,7 +33,10 @@ impl<J: Naming, B: Books<J> + Drop> Journal<J, B> {
         Journal {
             alloc,
             books: Mutex::new(books),
-            news: Condvar::new(),
+            batches: AtomicU64::new(0),
+            given: AtomicU64::new(0),
+            even: Condvar::new(),
+            odd: Condvar::new(),
             of: PhantomData,
         }
     }
@@ -35,6 +44,37 @@ impl<J: Naming, B: Books<J> + Drop> Journal<J, B> {
     /// Waits for the lock.
     pub fn lock<R: Wait>(&self, rt: &R) -> MutexGuard<'_, B> {
         self.books.lock(rt)
+    }
+
+    // Who waits for the batch of this number.
+    fn bell(&self, batch: u64) -> &Condvar {
+        if batch % 2 == 0 {
+            &self.even
+        } else {
+            &self.odd
+        }
+    }
+
+    // The bell of the batch that this record is in: the one that was begun last, or the next.
+    fn bell_of(&self, ticket: &Ticket<J>) -> &Condvar {
+        let batch = self.batches.load(Ordering::SeqCst);
+        if ticket.place() < self.given.load(Ordering::SeqCst) {
+            self.bell(batch)
+        } else {
+            self.bell(batch.wrapping_add(1))
+        }
+    }
+
+    // The batch that was begun last is on the disk, or there was a fault: who waits for it goes on, and one of those who wait for the next begins that.
+    fn ring(&self, is_well: bool) {
+        let batch = self.batches.load(Ordering::SeqCst);
+        self.bell(batch).notify_all();
+        let next = self.bell(batch.wrapping_add(1));
+        if is_well {
+            next.notify_one();
+        } else {
+            next.notify_all();
+        }
     }
 
     /// Waits until a record is on the disk. The first who waits brings all that was put to the disk, for all.
@@ -50,8 +90,11 @@ impl<J: Naming, B: Books<J> + Drop> Journal<J, B> {
             if let Some(fault) = books.fault() {
                 return Err(fault);
             }
+            let count = books.count();
             match books.take(self.alloc) {
                 Some(job) => {
+                    self.batches.fetch_add(1, Ordering::SeqCst);
+                    self.given.store(count, Ordering::SeqCst);
                     drop(books);
                     let done = B::run(job);
                     books = self.books.lock(rt);
@@ -59,9 +102,9 @@ impl<J: Naming, B: Books<J> + Drop> Journal<J, B> {
                         Ok(done) => books.give_back(done),
                         Err(fault) => books.fail(fault),
                     }
-                    self.news.notify_all();
+                    self.ring(books.fault().is_none());
                 }
-                None => books = self.news.wait(rt, books),
+                None => books = self.bell_of(ticket).wait(rt, books),
             }
         }
         unreachable!()

@@ -95,9 +95,10 @@ impl<K: Summary, D: Disk> Stored<K, D> {
         // After a restart, what is read is what is on the disk.
         requires durable { Only (D.seen disk) (D.may_leave disk) }
         requires told { K.tells [] checkpoint.now }
-        ensures ok { IfOk result (λ s. Held K.tells D.honest D.seen D.may_leave s [] []) }
+        ensures ok { IfOk result (λ s. Held K.tells K.spares D.honest D.seen D.may_leave s []) }
         ensures id { IfOk result (λ s. s.id ≡ id) }
         ensures back { IfOk result (λ s. D.honest (disk_of s) → D.honest disk) }
+        ensures back_err { IfErr result (λ e. D.honest e.1 → D.honest disk) }
     {
         match Log::create(alloc, disk, id, checkpoint) {
             Err(failed) => Err(failed),
@@ -116,17 +117,17 @@ impl<K: Summary, D: Disk> Stored<K, D> {
         // After a restart, what is read is what is on the disk.
         requires { Only (D.seen disk) (D.may_leave disk) }
         // All records of the log that the folder is stand in it, and what it returns tells of them all.
-        ensures ok { IfOk result (λ r. (all : List (List ℕ)) → IsKept K.tells id (D.seen disk) all →
-            Held K.tells D.honest D.seen D.may_leave r.0 all []) }
+        ensures ok { IfOk result (λ r. (all : List (List ℕ)) → IsKept K.tells K.spares id (D.seen disk) all →
+            Held K.tells K.spares D.honest D.seen D.may_leave r.0 all) }
         ensures last { IfOk result (λ r. D.honest (disk_of r.0) →
-            TellsLast K.tells id (D.seen disk) r.1) }
+            TellsLast K.tells K.spares id (D.seen disk) r.1) }
         ensures id { IfOk result (λ r. r.0.id ≡ id) }
 
         // A crash at any moment leaves a log of the same records.
         ensures any_moment { IfOk result (λ r. D.honest (disk_of r.0) →
-            LeavesKept K.tells D.seen D.moment D.left_since id disk (disk_of r.0)) }
+            LeavesKept K.tells K.spares D.seen D.moment D.left_since id disk (disk_of r.0)) }
         ensures any_moment_err { IfErr result (λ e. D.honest e.1 →
-            LeavesKept K.tells D.seen D.moment D.left_since id disk e.1) }
+            LeavesKept K.tells K.spares D.seen D.moment D.left_since id disk e.1) }
         // A log isn't reported damaged.
         ensures undamaged { IfErr result (λ e. D.honest e.1 → (segment at : ℕ) →
             e.0 ≡ LogFault.Damaged segment at → IsNoLog id (D.seen disk)) }
@@ -134,6 +135,7 @@ impl<K: Summary, D: Disk> Stored<K, D> {
             e.0 ≡ LogFault.Damaged segment at → Only (D.seen disk) (D.may_leave e.1)) }
         ensures missing { IfErr result (λ e. D.honest e.1 → e.0 ≡ LogFault.Missing → (n : ℕ) → D.seen disk n ≡ []) }
         ensures back { IfOk result (λ r. D.honest (disk_of r.0) → D.honest disk) }
+        ensures back_err { IfErr result (λ e. D.honest e.1 → D.honest disk) }
     {
         match Log::open(alloc, disk, id) {
             Err(failed) => Err(failed),
@@ -162,26 +164,23 @@ impl<K: Summary, D: Disk> Storage for Stored<K, D> {
     ghost use Rattle.gw_journal.specs.Stored.{Fails, Held, LeavesOne};
     ghost use Rattle.gw_journal.specs.own.Laws.{one_at_rest, one_goes_on, one_widens};
 
-    ghost stands = { Held K.tells D.honest D.seen D.may_leave };
+    ghost stands = { Held K.tells K.spares D.honest D.seen D.may_leave };
 
-    ghost leaves = { LeavesOne K.tells D.honest D.moment D.left_since };
+    ghost leaves = { LeavesOne K.tells K.spares D.honest D.moment D.left_since };
 
     ghost fails = { λ old new fault. Fails old new };
 
     ghost tells = { K.tells };
+
+    ghost spares = { K.spares };
 
     fn put(&mut self, batch: &[Vec<u8>]) -> Result<(), JournalFault> {
         self.log.put(batch)?;
         Ok(())
     }
 
-    fn settle(&mut self) -> Result<(), JournalFault> {
-        self.log.settle()?;
-        Ok(())
-    }
-
-    fn begin_next(&mut self, oldest: u64, checkpoint: &[u8]) -> Result<(), JournalFault> {
-        self.log.begin_next(oldest, checkpoint)?;
+    fn begin_next(&mut self, keep: u64, checkpoint: &[u8]) -> Result<(), JournalFault> {
+        self.log.begin_next(keep, checkpoint)?;
         Ok(())
     }
 
@@ -195,12 +194,12 @@ impl<K: Summary, D: Disk> Storage for Stored<K, D> {
     }
 
     fn tail(&self) -> (u64, usize) {
-        (self.log.number(), self.log.settled())
+        (self.log.number(), self.log.size())
     }
 
-    ghost at_rest = { one_at_rest K.tells D.honest D.seen D.may_leave D.moment D.left_since D.only_now };
+    ghost at_rest = { one_at_rest K.tells K.spares D.honest D.seen D.may_leave D.moment D.left_since D.only_now };
 
-    ghost goes_on = { one_goes_on K.tells D.honest D.seen D.may_leave D.moment D.left_since };
+    ghost goes_on = { one_goes_on K.tells K.spares D.honest D.seen D.may_leave D.moment D.left_since };
 
-    ghost widens = { one_widens K.tells D.honest D.seen D.may_leave D.moment D.left_since };
+    ghost widens = { one_widens K.tells K.spares D.honest D.seen D.may_leave D.moment D.left_since };
 }

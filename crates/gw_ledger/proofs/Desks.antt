@@ -1,5 +1,5 @@
 -- What a desk does, and the state beside it.
-use Rattle.std.proofs.Common.{◌≡◌, ◌⊎◌, ◌↔◌, inl, inr, ℕ, Bool, true, false, List, [], ◌∷◌, ◌++◌, length, Option, None, Some, refl, ap, sym, ◌∙◌, subst}
+use Rattle.std.proofs.Common.{◌≡◌, ◌≤◌, ◌⊎◌, ◌↔◌, inl, inr, ℕ, Bool, true, false, List, [], ◌∷◌, ◌++◌, length, Option, None, Some, refl, ap, sym, ◌∙◌, subst}
 use Rattle.std.proofs.lemmas.Bool.{false≢true}
 use Rattle.std.specs.Prelude.{is_some, IfSome, IsNone, IsTrue}
 use Rattle.gw_due.specs.Due.{Name}
@@ -10,9 +10,10 @@ use Rattle.gw_journal.specs.declared.event.Event as happened
 use Rattle.gw_journal.specs.declared.event.Event.TheVariants.{Put, Synced, Read}
 use Rattle.gw_journal.specs.Logs.{DeskState, IsAt, IsIdle, JobState, Log, AreFaithful, TicketState, log_in, next}
 use Rattle.gw_journal.proofs.Logging.{log_more}
-use Rattle.gw_ledger.specs.Ledgers.{IsInState, IsSeenIn, LedgerState, Tells}
+use Rattle.gw_ledger.specs.Ledgers.{IsInState, IsSeenIn, LedgerState, Spares, Tells, needed_from}
 use Rattle.gw_ledger.specs.Putting.{IsPut, margin_at, number_by}
 use Rattle.gw_ledger.proofs.Ledging.{faithful_part, next_is, state_more, state_stays, told}
+use Rattle.gw_ledger.proofs.Needing.{spared_by}
 
 module _ {S : Type 0} (Routes : (names : List Name) (plan to bytes : List ℕ) → Type 0) (before : List (List ℕ)) where
   abbrev pub Right : DeskState S → State → Type 0
@@ -66,6 +67,13 @@ module _ {S : Type 0} (Routes : (names : List Name) (plan to bytes : List ℕ) �
       subst (λ h. Tells (log_in before h).records bytes) (sym same)
       (told Routes (AreFaithful before desk.history) (log_in before desk.history).records s bytes (right well) spells fits)
 
+  -- and by its state so much is needed no more
+  pub right_spares : (desk : DeskState S) (s : State) (history : List happened.Event) (place : ℕ) → Right desk s → is_some desk.fault ≡ false
+      → history ≡ desk.history → place ≤ needed_from s → Spares (log_in before history).records place
+  right_spares desk s history place right well same le =
+      subst (λ h. Spares (log_in before h).records place) (sym same)
+      (spared_by Routes (AreFaithful before desk.history) (log_in before desk.history).records s place (right well) le)
+
 -- where there is something to do, there was no fault
 pub not_idle : {S X : Type 0} (desk : DeskState S) (r : Option X) → (IsNone r ↔ IsIdle desk) → is_some r ≡ true → is_some desk.fault ≡ false
 not_idle desk r idle some = at (is_some desk.fault) refl where
@@ -106,5 +114,19 @@ turned P r job bytes is next told = subst (λ (o : Option (JobState _)). IfSome 
 pub kept : {S : Type 0} (P : List ℕ → Type 0) (r : Option (JobState S)) (job : JobState S) → r ≡ Some job → IsNone job.next → IfSome r (λ job. IfSome job.next P)
 kept P r job is none = subst (λ (o : Option (JobState _)). IfSome o (λ job. IfSome job.next P)) (sym is) (at job.next none) where
   at : (o : Option (List ℕ)) → IsNone o → IfSome o P
+  at None none = tt
+  at (Some bytes) none = absurd (false≢true (sym none))
+
+-- the same of what a job that begins the next file says of its place
+pub turned_at : {S : Type 0} (P : ℕ → Type 0) (r : Option (JobState S)) (job old : JobState S) (bytes : List ℕ) (place : ℕ) → r ≡ Some job
+    → job ≡ record old { next = Some bytes; keep = place } → P place → IfSome r (λ job. IfSome job.next (λ _. P job.keep))
+turned_at P r job old bytes place is now holds =
+    subst (λ (o : Option (JobState _)). IfSome o (λ job. IfSome job.next (λ _. P job.keep))) (sym is)
+    (subst (λ (j : JobState _). IfSome j.next (λ _. P j.keep)) (sym now) holds)
+
+pub kept_at : {S : Type 0} (P : ℕ → Type 0) (r : Option (JobState S)) (job : JobState S) → r ≡ Some job → IsNone job.next
+    → IfSome r (λ job. IfSome job.next (λ _. P job.keep))
+kept_at P r job is none = subst (λ (o : Option (JobState _)). IfSome o (λ job. IfSome job.next (λ _. P job.keep))) (sym is) (at job.next none) where
+  at : (o : Option (List ℕ)) → IsNone o → IfSome o (λ _. P job.keep)
   at None none = tt
   at (Some bytes) none = absurd (false≢true (sym none))

@@ -42,7 +42,7 @@ one_reading (r ∷ records) (a ∷ these) (b ∷ those) p q =
     let rest : these ≡ those = one_reading records these those (record { are = cc (p.are); fit = p.fit.1 }) (record { are = cc (q.are); fit = q.fit.1 }) in
     cc (same, rest)
 
-fits_more : (entries : List Entry) (e : Entry) → AllByRecursion Fits entries → Fits e → AllByRecursion Fits (entries ++ e ∷ [])
+pub fits_more : (entries : List Entry) (e : Entry) → AllByRecursion Fits entries → Fits e → AllByRecursion Fits (entries ++ e ∷ [])
 fits_more [] e all fits = (fits, tt)
 fits_more (x ∷ entries) e all fits = (all.0, fits_more entries e all.1 fits)
 
@@ -79,7 +79,7 @@ pub record LastCut (records : List (List ℕ)) (e : Entry) (entries : List Entry
   pub all : entries ≡ front ++ e ∷ []
   pub spells : Spells records front
 
-cut_one : (records these : List (List ℕ)) (e : Entry) (entries : List Entry) → these ≡ records ++ spelled e ∷ [] → Fits e → Spells these entries
+pub cut_one : (records these : List (List ℕ)) (e : Entry) (entries : List Entry) → these ≡ records ++ spelled e ∷ [] → Fits e → Spells these entries
     → LastCut records e entries
 cut_one records these e entries same fits spells =
     let whole = subst (λ rs. Spells rs entries) same spells in
@@ -92,11 +92,11 @@ cut_one records these e entries same fits spells =
 
 -- ---- states
 
-next_from : (s : State) (log : List Event) → (fold after s log).next ≡ s.next + length log
+pub next_from : (s : State) (log : List Event) → (fold after s log).next ≡ s.next + length log
 next_from s [] = omega arith
 next_from s (e ∷ log) = let r = next_from (after s e) log in omega (arith, r)
 
-events_more : (entries : List Entry) (e : Entry) → events_of (entries ++ e ∷ []) ≡ events_of entries ++ e.event ∷ []
+pub events_more : (entries : List Entry) (e : Entry) → events_of (entries ++ e ∷ []) ≡ events_of entries ++ e.event ∷ []
 events_more entries e = map-append (λ (e : Entry). e.event) entries (e ∷ [])
 
 -- the place of the next record

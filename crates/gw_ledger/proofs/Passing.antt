@@ -228,7 +228,7 @@ in_order (suc a) (suc b) = step (in_order a b) where
   step (inl le) = inl (omega (arith, le))
   step (inr le) = inr (omega (arith, le))
 
-next_stays : (n from place : ℕ) (log more : List Event) → IsNext n from place log → IsNext n from place (log ++ more)
+pub next_stays : (n from place : ℕ) (log more : List Event) → IsNext n from place log → IsNext n from place (log ++ more)
 next_stays n from place log more next = by_order (in_order from (length log)) where
   by_order : (from ≤ length log) ⊎ (length log ≤ from) → IsNext n from place (log ++ more)
   by_order (inl le) =

@@ -2,4 +2,5 @@ pub mod Ledgers
 pub mod Putting
 pub mod Finding
 pub mod Accepting
+pub mod Backlogs
 pub mod own

@@ -44,7 +44,7 @@ pub record IsPut {S : Type 0} (before : List (List ℕ)) (old new : LedgerState 
 
 -- the desk with the storage that came back
 abbrev pub with_storage : {S : Type 0} → DeskState S → DoneState S → DeskState S
-with_storage desk done = record desk { storage = Some done.storage; settled = done.settled; history = desk.history ++ Synced done.settled ∷ [] }
+with_storage desk done = record desk { storage = Some done.storage; settled = done.given; history = desk.history ++ Synced done.given ∷ [] }
 
 -- a part of the entry has no length in four bytes, or its record has more than 2,147,483,648 bytes
 abbrev pub IsTooLong : Entry → Type 0

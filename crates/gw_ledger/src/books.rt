@@ -13,6 +13,10 @@ impl<J: Naming, S: Storage + Drop, R: Rules> Books<J> for Ledger<J, S, R> {
         Ledger::fault(self)
     }
 
+    fn count(&self) -> u64 {
+        Ledger::count(self)
+    }
+
     fn receipt(&self, ticket: &Ticket<J>) -> Option<Receipt<J>> {
         Ledger::receipt(self, ticket)
     }

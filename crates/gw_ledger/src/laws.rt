@@ -1,12 +1,15 @@
 //! What holds of the definitions.
-ghost use Rattle.std.specs.Prelude.{◌≡◌, ℕ, List};
+ghost use Rattle.std.specs.Prelude.{◌≡◌, ◌++◌, ℕ, List};
 ghost use mathlib.Core.List.{IsPrefix};
+ghost use Rattle.gw_due.specs.Due.{left};
 ghost use Rattle.gw_due.specs.Events.{Event};
 ghost use Rattle.gw_due.specs.Lawful.{Lawful};
 ghost use Rattle.gw_due.specs.Spelling.{Entry};
+ghost use Rattle.gw_due.specs.State.{state_of};
 ghost use Rattle.gw_journal.specs.Logs.{AreFaithful};
 ghost use Rattle.gw_journal.specs.declared.event.Event as happened;
-ghost use Rattle.gw_ledger.specs.Ledgers.{IsLawful, Spells, events_of};
+ghost use Rattle.gw_ledger.specs.Backlogs.{AreFrom};
+ghost use Rattle.gw_ledger.specs.Ledgers.{IsLawful, Spells, events_of, needed_from};
 
 use gw_due::laws::Rules;
 
@@ -24,6 +27,15 @@ pub fn a_beginning_is_lawful<R: Rules>()
 pub fn what_is_left_is_lawful<R: Rules>()
     ensures { (part whole : List (List ℕ)) (all : List Entry) → IsPrefix part whole → Spells whole all →
         Lawful R.routes (events_of all) → IsLawful R.routes part }
+{}
+
+/// By the state of a lawful log, nothing is left for a receiver that stands below the place from which on records are needed.
+///
+/// It stays so as the log grows: what is left stands no earlier than where records were needed before.
+pub fn what_is_left_is_needed<R: Rules>()
+    ensures now { (log : List Event) → Lawful R.routes log → (receiver : ℕ) → AreFrom (needed_from (state_of log)) (left receiver log) }
+    ensures later { (log more : List Event) → Lawful R.routes (log ++ more) → (receiver : ℕ) →
+        AreFrom (needed_from (state_of log)) (left receiver (log ++ more)) }
 {}
 
 /// What was read as it was written was so at each moment before.

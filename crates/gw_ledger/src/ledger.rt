@@ -1,16 +1,17 @@
 //! What lies under a gateway's lock.
-ghost use Rattle.std.specs.Prelude.{◌≡◌, ◌^◌, ◌<◌, ◌≤◌, ◌⊎◌, ◌↔◌, [], ⊤, ℕ, max, List, IfOk, IfErr, IfSome, IsErrOf, IsNone, IsSome, IsTrue, IsFalse, OnOk, Some};
+ghost use Rattle.std.specs.Prelude.{◌≡◌, ◌^◌, ◌<◌, ◌≤◌, ◌⊎◌, ◌↔◌, ◌+◌, [], ⊤, ℕ, length, max, min, List, IfOk, IfErr, IfSome, IsErrOf, IsNone, IsSome, IsTrue, IsFalse, OnOk, Some};
 ghost use mathlib.Core.List.{IsPrefix};
 ghost use Rattle.gw_due.specs.Spelling as spelling;
 ghost use Rattle.gw_due.specs.State as spec;
 ghost use Rattle.gw_due.specs.Views as view;
 ghost use Rattle.gw_journal.specs.Logs.{AreFaithful, Confirms, HasGrown, IsIdle, IsSpent, log_in};
 ghost use Rattle.gw_ledger.specs.Finding.{with_read};
-ghost use Rattle.gw_ledger.specs.Ledgers.{IsInState, IsSeenIn, Tells};
+ghost use Rattle.gw_ledger.specs.Ledgers.{IsInState, IsSeenIn, Spares, Tells, needed_from};
 ghost use Rattle.gw_ledger.specs.Putting.{IsCause, IsPut, Puts, margin_at, number_by, with_storage};
 ghost use Rattle.gw_ledger.specs.own.Steps.{IsAhead};
 
 use crate::fault::LedgerFault;
+use crate::needs::needed_from;
 use gw_due::laws::Rules;
 use gw_due::{Entry, Event, SpellFault, State, StateFault, spell};
 use gw_journal::{Desk, Done, Front, Job, JournalFault, Naming, Opened, Receipt, Storage, Ticket};
@@ -24,7 +25,7 @@ pub struct Ledger<J: Naming, S: Storage + Drop, R: Rules> {
     pub(crate) desk: Desk<J, S>,
     pub(crate) state: State,
     limit: usize,
-    oldest: u64,
+    keep: u64,
     pub(crate) number: u64,
     pub(crate) margin_at: Option<Ticket<J>>,
     tail: (u64, usize),
@@ -34,7 +35,7 @@ pub struct Ledger<J: Naming, S: Storage + Drop, R: Rules> {
 impl<J: Naming, S: Storage + Drop, R: Rules> Model for Ledger<J, S, R> {
     ghost use Rattle.std.specs.Prelude.{◌≡◌, ◌<◌, ℕ, List, IfSome, false, is_some};
     ghost use Rattle.gw_journal.specs.Logs.{AreFaithful, log_in};
-    ghost use Rattle.gw_ledger.specs.Ledgers.{IsInState, IsMargin, LedgerState, Tells};
+    ghost use Rattle.gw_ledger.specs.Ledgers.{IsInState, IsMargin, LedgerState, Spares, Tells};
 
     ghost Value = { LedgerState S };
 
@@ -42,7 +43,7 @@ impl<J: Naming, S: Storage + Drop, R: Rules> Model for Ledger<J, S, R> {
       desk = l.desk;
       state = l.state;
       limit = l.limit;
-      oldest = l.oldest;
+      keep = l.keep;
       number = l.number;
       margin_at = l.margin_at;
       tail = l.tail;
@@ -51,7 +52,8 @@ impl<J: Naming, S: Storage + Drop, R: Rules> Model for Ledger<J, S, R> {
     ghost invariant = { λ l. (is_some l.desk.fault ≡ false →
         IsInState R.routes (AreFaithful J.before l.desk.history) (log_in J.before l.desk.history).records l.state)
         × ((records : List (List ℕ)) (bytes : List ℕ) → Tells records bytes → S.tells records bytes)
-        × (IfSome l.state.last (λ n. n < l.number)) × (IfSome l.margin_at (IsMargin J.before l.state.margin)) };
+        × (IfSome l.state.last (λ n. n < l.number)) × (IfSome l.margin_at (IsMargin J.before l.state.margin))
+        × ((records : List (List ℕ)) (place : ℕ) → Spares records place → S.spares records place) };
 }
 
 // The record that spells an entry.
@@ -132,19 +134,20 @@ fn note_margin<J: Naming>(last: &mut Option<Ticket<J>>, ticket: &Ticket<J>, even
 }
 
 impl<J: Naming, S: Storage + Drop, R: Rules> Ledger<J, S, R> {
-    /// The ledger of a log that has these records, and none pending. Where they spell events, these are lawful, and this is their state.
+    /// The ledger of a log that has these records. Where they spell events, these are lawful, and this is their state.
     ///
     /// The next file is begun where the last one has more bytes than `limit`.
     pub fn open(alloc: Global, opened: Opened, storage: S, state: State, limit: usize) -> Self
         requires book { opened.seen.book ≡ J.book }
-        requires stands { S.stands storage J.before [] }
+        requires stands { S.stands storage J.before }
         requires state { IsInState R.routes ⊤ J.before state }
         requires numbers { IfSome state.last (λ n. n < state.margin) }
         requires tells { (records : List (List ℕ)) (bytes : List ℕ) → Tells records bytes → S.tells records bytes }
+        requires spares { (records : List (List ℕ)) (place : ℕ) → Spares records place → S.spares records place }
         ensures history { result.desk.history ≡ [] }
         ensures state { result.state ≡ state }
         ensures limit { result.limit ≡ limit }
-        ensures oldest { result.oldest ≡ 0 }
+        ensures keep { result.keep ≡ 0 }
         // All numbers below the margin may have been given.
         ensures number { result.number ≡ max 1 state.margin }
         ensures margin_at { IsNone result.margin_at }
@@ -157,7 +160,7 @@ impl<J: Naming, S: Storage + Drop, R: Rules> Ledger<J, S, R> {
             desk: Desk::open(alloc, opened, storage, count),
             state,
             limit,
-            oldest: 0,
+            keep: 0,
             number: margin.max(1),
             margin_at: None,
             tail,
@@ -169,12 +172,13 @@ impl<J: Naming, S: Storage + Drop, R: Rules> Ledger<J, S, R> {
     pub fn begin(alloc: Global, opened: Opened, storage: S, limit: usize) -> Self
         requires book { opened.seen.book ≡ J.book }
         requires before { J.before ≡ [] }
-        requires stands { S.stands storage J.before [] }
+        requires stands { S.stands storage J.before }
         requires tells { (records : List (List ℕ)) (bytes : List ℕ) → Tells records bytes → S.tells records bytes }
+        requires spares { (records : List (List ℕ)) (place : ℕ) → Spares records place → S.spares records place }
         ensures history { result.desk.history ≡ [] }
         ensures state { result.state ≡ spec.nothing }
         ensures limit { result.limit ≡ limit }
-        ensures oldest { result.oldest ≡ 0 }
+        ensures keep { result.keep ≡ 0 }
         ensures number { result.number ≡ 1 }
         ensures margin_at { IsNone result.margin_at }
         ensures well { IsNone result.desk.fault }
@@ -196,11 +200,11 @@ impl<J: Naming, S: Storage + Drop, R: Rules> Ledger<J, S, R> {
         self.tail
     }
 
-    /// Files of a number below this one are needed no more.
-    pub fn keep_from(&mut self, segment: u64)
-        ensures { self.new ≡ record self.old { oldest = segment } }
+    /// Records at places below this one are needed for nothing but what is left for receivers.
+    pub fn keep_from(&mut self, place: u64)
+        ensures { self.new ≡ record self.old { keep = place } }
     {
-        self.oldest = segment;
+        self.keep = place;
     }
 
     // Puts an entry that the state allows, where it has room and there was no fault.
@@ -270,6 +274,13 @@ impl<J: Naming, S: Storage + Drop, R: Rules> Ledger<J, S, R> {
         self.desk.fault()
     }
 
+    /// How many records were put, those that the log had included.
+    pub fn count(&self) -> u64
+        ensures { IsNone self.now.desk.fault → result ≡ self.now.desk.given + length self.now.desk.batch }
+    {
+        self.desk.count()
+    }
+
     /// The receipt of a record, where it is on the disk.
     pub fn receipt(&self, ticket: &Ticket<J>) -> Option<Receipt<J>>
         ensures none { IsNone result ↔ self.now.desk.settled ≤ ticket.now.place }
@@ -280,12 +291,17 @@ impl<J: Naming, S: Storage + Drop, R: Rules> Ledger<J, S, R> {
     }
 
     /// The storage, with what it wasn't given yet. Where its last file has more bytes than the limit, the next one is begun behind all that was put,
-    /// with the state as its checkpoint, unless an allocation fails for that.
+    /// with the state as its checkpoint, unless an allocation fails for that. Files may go then of which no record is needed.
     pub fn take(&mut self, alloc: Global) -> Option<Job<J, S>>
         ensures same { self.new.desk.history ≡ self.old.desk.history }
         ensures state { self.new.state ≡ self.old.state }
         ensures seen { IfSome result (λ job. job.history ≡ self.old.desk.history) }
         ensures told { IfSome result (λ job. IfSome job.next (Tells (log_in J.before self.old.desk.history).records)) }
+        // Nothing goes that stands where something is left for a receiver, or behind that, or that is kept otherwise.
+        ensures kept { IfSome result (λ job. IfSome job.next (λ _.
+            job.keep ≡ min self.old.keep (needed_from self.old.state))) }
+        ensures spared { IfSome result (λ job. IfSome job.next (λ _.
+            Spares (log_in J.before self.old.desk.history).records job.keep)) }
         ensures none { IsNone result ↔ IsIdle self.old.desk }
         ensures fault { self.new.desk.fault ≡ self.old.desk.fault }
     {
@@ -295,7 +311,7 @@ impl<J: Naming, S: Storage + Drop, R: Rules> Ledger<J, S, R> {
         }
         let mut checkpoint = Vec::new(alloc);
         match self.state.spell(&mut checkpoint) {
-            Ok(()) => Some(job.turning(self.oldest, checkpoint)),
+            Ok(()) => Some(job.turning(self.keep.min(needed_from(&self.state)), checkpoint)),
             Err(_) => Some(job),
         }
     }

@@ -4,6 +4,7 @@
 #![tactic(auto)]
 
 mod accepting;
+mod backlogs;
 mod books;
 mod checkpoints;
 mod events;
@@ -11,11 +12,14 @@ mod fault;
 pub mod laws;
 mod ledger;
 mod messages;
+mod needs;
 mod scans;
 
 pub use accepting::Look;
+pub use backlogs::Backlog;
 pub use checkpoints::Checkpoints;
 pub use fault::{LedgerFault, ScanFault};
 pub use ledger::Ledger;
 pub use messages::Message;
+pub use needs::needed_from;
 pub use scans::{Found, Scan};

@@ -2,7 +2,8 @@
 ghost use Rattle.std.specs.Prelude.{◌≡◌, ◌+◌, ◌↔◌, ◌⊎◌, is_some, IfOk, IfSome, IsErrOf, IsNone, IsSome, IsTrue, OnOk, OnErr};
 ghost use Rattle.gw_due.specs.Due.{is_among};
 ghost use Rattle.gw_due.specs.Views as view;
-ghost use Rattle.gw_ledger.specs.Finding.{IsBegun, IsCurrent, OfSpelled, found_at, from_of, makes_due, was_passed, with_read};
+ghost use Rattle.gw_ledger.specs.Backlogs.{IsLeftFrom};
+ghost use Rattle.gw_ledger.specs.Finding.{InJournal, IsBegun, IsCurrent, OfSpelled, found_at, from_of, makes_due, was_passed, with_read};
 ghost use Rattle.gw_ledger.specs.Putting.{Puts, timed};
 
 use crate::fault::{LedgerFault, ScanFault};
@@ -15,10 +16,10 @@ use std::marker::Model;
 /// What was looked through for a receiver: from where what is left for it begins, up to another place. Nothing is due to it there.
 #[derive(Drop)]
 pub struct Scan<J: Naming> {
-    receiver: u32,
-    from: u64,
-    at: u64,
-    front: Front<J>,
+    pub(crate) receiver: u32,
+    pub(crate) from: u64,
+    pub(crate) at: u64,
+    pub(crate) front: Front<J>,
 }
 
 impl<J: Naming> Model for Scan<J> {
@@ -43,10 +44,10 @@ impl<J: Naming> Scan<J> {
 /// The next for a receiver, at its place in the log, if what was read of the log is what was written.
 #[derive(Drop)]
 pub struct Found<J: Naming> {
-    receiver: u32,
-    from: u64,
-    place: u64,
-    front: Front<J>,
+    pub(crate) receiver: u32,
+    pub(crate) from: u64,
+    pub(crate) place: u64,
+    pub(crate) front: Front<J>,
 }
 
 impl<J: Naming> Model for Found<J> {
@@ -111,7 +112,7 @@ fn makes_due(number: u32, event: &Event<'_>) -> bool
 }
 
 // Where what is left for the receiver of this number begins.
-fn from_of(receivers: &[Receiver], number: u32) -> Option<u64>
+pub(crate) fn from_of(receivers: &[Receiver], number: u32) -> Option<u64>
     ensures { result ≡ from_of number receivers.now }
 {
     for one in receivers {
@@ -127,6 +128,9 @@ impl<J: Naming, S: Storage + Drop, R: Rules> Ledger<J, S, R> {
     pub fn scan(&self, receiver: u32) -> Option<Scan<J>>
         ensures none { IsNone result → IsNone (from_of receiver self.now.state.receivers) }
         ensures scan { IfSome result (IsBegun self.now receiver) }
+        // From there on all that is due to the receiver is left for it.
+        ensures left { IsNone self.now.desk.fault → IfSome result (λ s.
+            InJournal (IsLeftFrom s.receiver s.from) J.before s.history) }
     {
         let from = from_of(self.state.receivers(), receiver)?;
         Some(Scan {

@@ -1,9 +1,11 @@
 -- What a walk has given.
 use Rattle.std.proofs.Common.{◌≡◌, ℕ, zero, suc, ◌+◌, ◌<◌, ◌≤◌, ◌^◌, true, false, List, [], ◌∷◌, ◌++◌, length, drop, refl, sym, ◌∙◌, ap, subst, arith, append_assoc, length-append, length-drop}
-use Rattle.std.specs.Prelude.{T}
+use Rattle.std.specs.Prelude.{T, IsTrue}
 use Rattle.std.proofs.lemmas.List.{append-nil}
 use Rattle.gw_log.specs.Disk.{Files, AreEnds}
 use Rattle.gw_log.specs.File.{Has, IsUnsynced, blocks}
+use Rattle.gw_log.proofs.Batches.{has_unsynced, has_lone}
+use Rattle.gw_log.proofs.Sound.{has_stands}
 use Rattle.gw_log.specs.State.{ReaderState, IsRead}
 use Rattle.gw_log.specs.Chain.{Head, Origin, IsLog, Holds, LogState, AreBefore, AreSome, IsEnded, spelled, none, more}
 use Rattle.gw_log.proofs.Founding.{least_is}
@@ -33,15 +35,11 @@ at_most_one (gate ∷ []) le = tt
 at_most_one (gate ∷ byte ∷ bytes) le = absurd (omega (arith, le))
 
 -- a file of which all is read but its last byte
-pub has_read : {D : Type 0} (seen : D → Files) (r : ReaderState D) (records : List (List ℕ)) (upto : ℕ) → IsRead seen r records
+pub has_read : {D : Type 0} (seen : D → Files) (r : ReaderState D) (records : List (List ℕ)) (upto : ℕ) → IsRead seen r records → IsTrue r.is_open
     → upto + 1 ≡ length (seen r.disk r.number) → upto ≤ r.at → Has records (seen r.disk r.number)
-has_read seen r records upto read is at_end = record {
-  end = drop r.at (seen r.disk r.number);
-  whole = read.whole;
-  short = read.short;
-  unsynced = at_most_one (drop r.at (seen r.disk r.number))
-      (let size = length-drop r.at (seen r.disk r.number) in omega (arith, size, is, at_end));
-}
+has_read seen r records upto read all_open is at_end =
+    has_unsynced records (drop r.at (seen r.disk r.number)) (seen r.disk r.number) read.short
+    (at_most_one (drop r.at (seen r.disk r.number)) (let size = length-drop r.at (seen r.disk r.number) in omega (arith, size, is, at_end))) (read.whole all_open)
 
 -- ---- files
 
@@ -59,7 +57,7 @@ pub all_given : {D : Type 0} (seen : D → Files) (w : WalkState D) (records : L
     → AreAllListed (seen w.reader.disk) w.first w.number records
 all_given seen w records is at_end =
     let file = seen w.reader.disk in
-    let has : Has (w.head ∷ is.these) (file w.reader.number) = has_read seen w.reader (w.head ∷ is.these) w.upto is.read
+    let has : Has (w.head ∷ is.these) (file w.reader.number) = has_read seen w.reader (w.head ∷ is.these) w.upto is.read is.all_open
     (is.upto ∙ ap (λ n. length (file n)) (sym is.number)) at_end in (
       suc is.count,
       (let c = is.counted in omega (arith, c)),
@@ -75,22 +73,22 @@ all_given seen w records is at_end =
 
 -- before the first record of a file
 pub begun : {D : Type 0} (seen : D → Files) (honest : D → Type 0) (disk next : D) (r : ReaderState D) (number size upto : ℕ)
-    → r ≡ record { disk = next; number = number; at = 0; upto = upto } → (honest next → size ≡ length (seen disk number)) → seen next ≡ seen disk → size < 2 ^ 62
+    → r ≡ record { disk = next; number = number; at = 0; upto = upto; is_open = true } → (honest next → size ≡ length (seen disk number)) → seen next ≡ seen disk → size < 2 ^ 62
     → honest r.disk → IsRead seen r []
 begun seen honest disk next r number size upto is sized same small fair =
     let n : length (seen next number) ≡ size = ap (λ f. length (f number)) same ∙ sym (sized (subst (λ s. honest s.disk) is fair)) in
-    let read : IsRead seen record { disk = next; number = number; at = 0; upto = upto } [] =
-    record { whole = refl; short = tt; here = refl; small = omega (arith, n, small) } in
+    let read : IsRead seen record { disk = next; number = number; at = 0; upto = upto; is_open = true } [] =
+    record { whole = λ _. refl; short = tt; here = refl; small = omega (arith, n, small) } in
     subst (λ s. IsRead seen s []) (sym is) read
 
 -- ---- a walk
 
 -- one record more
 pub next_listed : {D : Type 0} (seen : D → Files) (w : WalkState D) (r : ReaderState D) (place : ℕ) (before : List (List ℕ)) (bytes : List ℕ) (listed : IsListed seen w before)
-    → IsRead seen r (w.head ∷ (listed.these ++ bytes ∷ [])) → seen r.disk ≡ seen w.reader.disk → r.number ≡ w.reader.number → 0 < length bytes → place ≡ w.place + 1
+    → IsRead seen r (w.head ∷ (listed.these ++ bytes ∷ [])) → IsTrue r.is_open → seen r.disk ≡ seen w.reader.disk → r.number ≡ w.reader.number → 0 < length bytes → place ≡ w.place + 1
     → w.ended ≡ false
     → IsListed seen (record w { reader = r; place = place }) (before ++ bytes ∷ [])
-next_listed seen w r place before bytes listed read same is long next fresh =
+next_listed seen w r place before bytes listed read all_open same is long next fresh =
     let size : length (before ++ bytes ∷ []) ≡ length before + 1 = length-append before (bytes ∷ []) in
     let its = listed.place in record {
       count = listed.count;
@@ -99,6 +97,7 @@ next_listed seen w r place before bytes listed read same is long next fresh =
       files = subst (λ f. AreListed f w.first listed.count listed.front) (sym same) listed.files;
       closed = subst (λ f. AreClosed f w.first listed.count) (sym same) listed.closed;
       read = read;
+      all_open = all_open;
       ended = λ (t : T w.ended). absurd (subst T fresh t);
       number = is ∙ listed.number;
       counted = listed.counted;
@@ -110,16 +109,17 @@ next_listed seen w r place before bytes listed read same is long next fresh =
 
 -- the record that ends a file
 pub end_listed : {D : Type 0} (seen : D → Files) (w : WalkState D) (r : ReaderState D) (before : List (List ℕ)) (bytes : List ℕ) (listed : IsListed seen w before)
-    → IsRead seen r (w.head ∷ (listed.these ++ bytes ∷ [])) → seen r.disk ≡ seen w.reader.disk → r.number ≡ w.reader.number → length bytes ≡ 0
+    → IsRead seen r (w.head ∷ (listed.these ++ bytes ∷ [])) → IsTrue r.is_open → seen r.disk ≡ seen w.reader.disk → r.number ≡ w.reader.number → length bytes ≡ 0
     → IsListed seen (record w { reader = r; ended = true }) before
-end_listed seen w r before (byte ∷ bytes) listed read same is empty = absurd (omega (arith, empty))
-end_listed seen w r before [] listed read same is empty = record {
+end_listed seen w r before (byte ∷ bytes) listed read all_open same is empty = absurd (omega (arith, empty))
+end_listed seen w r before [] listed read all_open same is empty = record {
   count = listed.count;
   front = listed.front;
   these = listed.these ++ [] ∷ [];
   files = subst (λ f. AreListed f w.first listed.count listed.front) (sym same) listed.files;
   closed = subst (λ f. AreClosed f w.first listed.count) (sym same) listed.closed;
   read = read;
+  all_open = all_open;
   ended = λ (t : T true). record { front = w.head ∷ listed.these; is = refl };
   number = is ∙ listed.number;
   counted = listed.counted;
@@ -136,15 +136,15 @@ ended_file seen w records is t gate =
     let file = seen w.reader.disk in
     let here : drop w.reader.at (file w.reader.number) ≡ 0 ∷ [] = subst (λ n. drop w.reader.at (file n) ≡ 0 ∷ []) (sym is.number) gate in
     let whole : file w.reader.number ≡ blocks (w.head ∷ is.these) ++ 0 ∷ [] =
-    is.read.whole ∙ ap (λ (l : List ℕ). blocks (w.head ∷ is.these) ++ l) here in
+    is.read.whole is.all_open ∙ ap (λ (l : List ℕ). blocks (w.head ∷ is.these) ++ l) here in
     subst (λ n. file n ≡ blocks (w.head ∷ is.these) ++ 0 ∷ []) (is.number ∙ is.counted) whole
 
 -- the next file
 pub turn_listed : {D : Type 0} (seen : D → Files) (w : WalkState D) (r : ReaderState D) (upto number : ℕ) (head : List ℕ) (before : List (List ℕ)) → IsListed seen w before
     → w.ended ≡ true → drop w.reader.at (seen w.reader.disk w.number) ≡ 0 ∷ []
-    → IsRead seen r (head ∷ []) → seen r.disk ≡ seen w.reader.disk → r.number ≡ number → number ≡ w.number + 1 → upto + 1 ≡ length (seen r.disk number)
+    → IsRead seen r (head ∷ []) → IsTrue r.is_open → seen r.disk ≡ seen w.reader.disk → r.number ≡ number → number ≡ w.number + 1 → upto + 1 ≡ length (seen r.disk number)
     → IsListed seen record { reader = r; upto = upto; id = w.id; first = w.first; start = w.start; number = number; last = w.last; place = w.place; head = head; ended = false } before
-turn_listed seen w r upto number head before listed ended gate read same is next all =
+turn_listed seen w r upto number head before listed ended gate read all_open same is next all =
     let t : T w.ended = subst T (sym ended) tt in
     let whole = ended_file seen w before listed t gate in
     let files : AreListed (seen w.reader.disk) w.first (suc listed.count) before = record {
@@ -152,7 +152,7 @@ turn_listed seen w r upto number head before listed ended gate read same is next
       head = w.head;
       these = listed.these;
       before = listed.files;
-      has = record { end = 0 ∷ []; whole = whole; short = listed.read.short; unsynced = tt };
+      has = has_lone (w.head ∷ listed.these) 0 (seen w.reader.disk (w.first + listed.count)) listed.read.short whole;
       all = listed.all;
     } in
     let closed : AreClosed (seen w.reader.disk) w.first (suc listed.count) =
@@ -163,6 +163,7 @@ turn_listed seen w r upto number head before listed ended gate read same is next
       files = subst (λ f. AreListed f w.first (suc listed.count) before) (sym same) files;
       closed = subst (λ f. AreClosed f w.first (suc listed.count)) (sym same) closed;
       read = read;
+      all_open = all_open;
       ended = λ (t : T false). absurd t;
       number = is;
       counted = (let c = listed.counted in omega (arith, next, c));
@@ -178,7 +179,7 @@ each_ended seen w records is = (is.count, is.counted, is.closed)
 -- ---- a log
 
 ended_has : (h : Head) (these : List (List ℕ)) (file : List ℕ) → IsEnded h these file → Has (spelled h ∷ (these ++ [] ∷ [])) file
-ended_has h these file is = record { end = 0 ∷ []; whole = is.whole; short = is.short; unsynced = tt }
+ended_has h these file is = has_lone (spelled h ∷ (these ++ [] ∷ [])) 0 file is.short is.whole
 
 some_ended : (these : List (List ℕ)) → AreSome these → some (these ++ [] ∷ []) ≡ these
 some_ended these all = some-append these ([] ∷ []) ∙ append-nil (some these) ∙ some_all these all
@@ -202,14 +203,13 @@ before_listed id files last first0 count number first before acc records listed 
     let done = before_listed id files last first0 (suc count) (number + 1) (first + length these) (length (files number)) (acc ++ these) those next (omega (arith, is)) rest in
     (done.0, done.1, subst (AreListed files first0 done.0) (append_assoc acc these those) done.2)
 
--- a log that is open and has nothing pending
+-- a log that is open
 pub held_listed : {D : Type 0} (seen : D → Files) (may_leave : D → Files → Type 0) (s : LogState D) (from : Origin) (head : Head) (records : List (List ℕ))
-    → Holds seen may_leave s from head records [] → AreAllListed (seen s.segment.disk) from.number s.segment.number records
+    → Holds seen may_leave s from head records → AreAllListed (seen s.segment.disk) from.number s.segment.number records
 held_listed seen may_leave s from head records holds =
     let files = seen s.segment.disk in
     let front = before_listed s.id files head from.number 0 from.number from.first from.before [] holds.front refl (omega arith) holds.ended in
-    let at : s.segment.number ≡ from.number + front.0 = sym holds.number ∙ front.1 in
-    let staged = holds.stands.staged in (
+    let at : s.segment.number ≡ from.number + front.0 = sym holds.number ∙ front.1 in (
       suc front.0,
       omega (arith, at),
       record {
@@ -217,12 +217,7 @@ held_listed seen may_leave s from head records holds =
         head = spelled head;
         these = holds.these;
         before = front.2;
-        has = record {
-          end = 0 ∷ [];
-          whole = ap (λ n. files n) (sym at) ∙ staged.file;
-          short = staged.short;
-          unsynced = tt;
-        };
+        has = has_stands seen may_leave s.segment (spelled head ∷ holds.these) holds.stands (files (from.number + front.0)) (ap (λ n. files n) (sym at));
         all = holds.all ∙ ap (λ (l : List (List ℕ)). holds.front ++ l) (sym (some_all holds.these holds.some));
       },
     )
@@ -230,7 +225,7 @@ held_listed seen may_leave s from head records holds =
 -- what the folder was a log of
 pub open_listed : {D : Type 0} (seen : D → Files) (may_leave : D → Files → Type 0) (id first its_id its_first its_last : ℕ) (disk looked walked : D) (s : LogState D)
     (from : Origin) (head : Head) (records : List (List ℕ)) → its_id ≡ id → its_first ≡ first → its_last ≡ s.segment.number → seen looked ≡ seen disk → seen walked ≡ seen s.segment.disk
-    → (last : ℕ) → AreEnds first last (seen disk) → (IsLog id (seen looked) from head records → Holds seen may_leave s from head records []) → IsLog its_id (seen disk) from head records
+    → (last : ℕ) → AreEnds first last (seen disk) → (IsLog id (seen looked) from head records → Holds seen may_leave s from head records) → IsLog its_id (seen disk) from head records
     → (its_first ≡ from.number) × AreAllListed (seen walked) its_first its_last records
 open_listed seen may_leave id first its_id its_first its_last disk looked walked s from head records is_id is_first is_last same kept last ends held log =
     let mine : IsLog id (seen disk) from head records = subst (λ i. IsLog i (seen disk) from head records) is_id log in

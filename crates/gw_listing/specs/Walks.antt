@@ -1,5 +1,5 @@
 -- What is listed of a log: the records of its files, in order, but for their heads and their ends.
-use Rattle.std.specs.Prelude.{◌≡◌, ⊤, ℕ, zero, suc, ◌+◌, ◌≤◌, Bool, T, List, [], ◌∷◌, ◌++◌, length}
+use Rattle.std.specs.Prelude.{◌≡◌, ⊤, ℕ, zero, suc, ◌+◌, ◌≤◌, Bool, T, IsTrue, List, [], ◌∷◌, ◌++◌, length}
 use Rattle.gw_log.specs.Disk.{Files}
 use Rattle.gw_log.specs.File.{Has, AreShort}
 use Rattle.gw_log.specs.Opening.{IsSealed}
@@ -25,7 +25,7 @@ abbrev pub AreListed : Files → (first count : ℕ) → List (List ℕ) → Typ
 AreListed files first zero records = records ≡ []
 AreListed files first (suc count) records = EndWith (files (first + count)) (AreListed files first count) records
 
--- The file was ended: its last record is the empty one, and behind it stands a closed gate
+-- The file was ended: its last record is the empty one, and behind it stands a gate of 0
 pub record IsClosed (file : List ℕ) : Type 0 where
   pub records : List (List ℕ)
   pub sealed : IsSealed records
@@ -60,6 +60,7 @@ pub record IsListed {D : Type 0} (seen : D → Files) (w : WalkState D) (records
   pub files : AreListed (seen w.reader.disk) w.first count front
   pub closed : AreClosed (seen w.reader.disk) w.first count
   pub read : IsRead seen w.reader (w.head ∷ these)
+  pub all_open : IsTrue w.reader.is_open
   pub ended : T w.ended → IsSealed (w.head ∷ these)
   pub number : w.reader.number ≡ w.number
   pub counted : w.number ≡ w.first + count

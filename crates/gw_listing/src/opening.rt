@@ -6,23 +6,8 @@ ghost use Rattle.gw_listing.specs.Walks.{AreAllListed, IsListed};
 
 use crate::fault::ListFault;
 use crate::walk::{Walk, begin_file, damaged};
-use gw_log::{Disk, Log, LogFault, read_head};
+use gw_log::{Disk, Log, LogFault, find_id, read_head};
 use std::alloc::Global;
-
-/// What stands before a record's bytes: a gate, their length in four bytes, and their SHA-256.
-const BEFORE: usize = 1 + 4 + 32;
-
-/// The bytes of a head that come before its checkpoint.
-const HEAD: usize = 40;
-
-// The number of the log that the head of a file names. It isn't held against its digest.
-fn id_in(bytes: &[u8]) -> Option<u64> {
-    if bytes.len() != BEFORE + HEAD {
-        return None;
-    }
-    let (_, head) = bytes.split_at(BEFORE);
-    Some(read_head(head)?.id)
-}
 
 // The first file of a folder, and the number of the log that its head names. Nothing is changed.
 fn look<D: Disk>(alloc: Global, disk: &mut D) -> Result<(u64, u64), LogFault>
@@ -35,10 +20,9 @@ fn look<D: Disk>(alloc: Global, disk: &mut D) -> Result<(u64, u64), LogFault>
     if last < first {
         return Err(LogFault::Missing);
     }
-    let bytes = disk.read(alloc, first, 0, BEFORE + HEAD)?;
-    match id_in(&bytes) {
+    match find_id(alloc, disk)? {
         Some(id) => Ok((first, id)),
-        None => Err(damaged(first)),
+        None => Err(LogFault::Missing),
     }
 }
 

@@ -63,6 +63,7 @@ pub(crate) fn begin_file<D: Disk>(
     number: u64,
 ) -> Result<(Reader<D>, Vec<u8>, usize), (LogFault, D)>
     ensures read { IfOk result (λ r. D.honest r.0.disk → IsRead D.seen r.0 (r.1.items ∷ [])) }
+    ensures opened { IfOk result (λ r. IsTrue r.0.is_open) }
     ensures upto { IfOk result (λ r. D.honest r.0.disk → r.2 + 1 ≡ length (D.seen r.0.disk number)) }
     ensures number { IfOk result (λ r. r.0.number ≡ number) }
     ensures seen { IfOk result (λ r. D.seen r.0.disk ≡ D.seen disk) }
@@ -79,7 +80,12 @@ pub(crate) fn begin_file<D: Disk>(
     let upto = size - 1;
     let mut reader = Reader::at(alloc, disk, number, 0, upto);
     match reader.next() {
-        Ok(Some(head)) => Ok((reader, head, upto)),
+        Ok(Some(head)) => {
+            if !reader.is_open() {
+                return Err((damaged(number), reader.into_disk()));
+            }
+            Ok((reader, head, upto))
+        }
         Ok(None) => Err((damaged(number), reader.into_disk())),
         Err(fault) => Err((fault, reader.into_disk())),
     }
@@ -93,6 +99,7 @@ fn follow<D: Disk>(
     place: u64,
 ) -> Result<(Reader<D>, Vec<u8>, usize), (ListFault, D)>
     ensures read { IfOk result (λ r. D.honest r.0.disk → IsRead D.seen r.0 (r.1.items ∷ [])) }
+    ensures opened { IfOk result (λ r. IsTrue r.0.is_open) }
     ensures upto { IfOk result (λ r. D.honest r.0.disk → r.2 + 1 ≡ length (D.seen r.0.disk number)) }
     ensures number { IfOk result (λ r. r.0.number ≡ number) }
     ensures seen { IfOk result (λ r. D.seen r.0.disk ≡ D.seen disk) }
@@ -112,7 +119,7 @@ fn follow<D: Disk>(
     Ok((reader, head, upto))
 }
 
-// Whether these bytes are a closed gate alone.
+// Whether these bytes are a gate of 0 alone.
 fn is_closed_gate(bytes: &[u8]) -> bool
     ensures { IsTrue result → bytes.now ≡ 0 ∷ [] }
 {
@@ -122,7 +129,7 @@ fn is_closed_gate(bytes: &[u8]) -> bool
     }
 }
 
-// Fails unless a closed gate stands at this byte of a file, and nothing behind it.
+// Fails unless a gate of 0 stands at this byte of a file, and nothing behind it.
 fn find_gate<D: Disk>(alloc: Global, disk: &mut D, number: u64, at: usize) -> Result<(), LogFault>
     ensures gate { D.honest disk.new → OnOk result (drop at (D.seen disk.old number) ≡ 0 ∷ []) }
     ensures seen { D.seen disk.new ≡ D.seen disk.old }
@@ -138,7 +145,7 @@ fn find_gate<D: Disk>(alloc: Global, disk: &mut D, number: u64, at: usize) -> Re
     })
 }
 
-// The disk of a reader behind the record that ends its file, which is of this number. Only a closed gate may stand there.
+// The disk of a reader behind the record that ends its file, which is of this number. Only a gate of 0 may stand there.
 fn close<D: Disk>(alloc: Global, reader: Reader<D>, number: u64) -> Result<D, (LogFault, D)>
     ensures gate { IfOk result (λ d. D.honest d → drop reader.at (D.seen reader.disk number) ≡ 0 ∷ []) }
     ensures seen { IfOk result (λ d. D.seen d ≡ D.seen reader.disk) }
@@ -258,6 +265,9 @@ impl<D: Disk> Walk<D> {
         let Some(record) = self.reader.next()? else {
             return Err(self.damage());
         };
+        if !self.reader.is_open() {
+            return Err(self.damage());
+        }
         if record.is_empty() {
             // (it ends the file)
             self.is_ended = true;
@@ -281,7 +291,7 @@ impl<D: Disk> Walk<D> {
         self.span.last <= self.number
     }
 
-    /// Goes on to the next file, whose head has to say how many records stand before it. The file that was read has to be ended: an empty record, a closed gate, and nothing behind it.
+    /// Goes on to the next file, whose head has to say how many records stand before it. The file that was read has to be ended: an empty record, a gate of 0, and nothing behind it.
     pub fn turn(self) -> Result<Walk<D>, (ListFault, D)>
         ensures listed { IfOk result (λ w. D.honest w.reader.disk → (before : List (List ℕ)) →
             IsListed D.seen self before → IsListed D.seen w before) }

@@ -1,188 +1,314 @@
 -- What a crash leaves of a file in each step of a call.
-use Rattle.std.proofs.Common.{◌≡◌, ◌≢◌, inl, inr, refl, ℕ, ◌+◌, ◌-◌, ◌≤◌, min, List, [], ◌∷◌, ◌++◌, length, get_or, take, drop}
-use Rattle.std.proofs.Common.{sym, ◌∙◌, ap, subst, arith, append_assoc, length-append, length-drop, take-append-drop}
+use Rattle.std.proofs.Common.{◌≡◌, ◌≢◌, ◌⊎◌, inl, inr, refl, ℕ, ◌+◌, ◌-◌, ◌≤◌, min, List, [], ◌∷◌, ◌++◌, length, take, drop}
+use Rattle.std.proofs.Common.{sym, ◌∙◌, ap, subst, arith, append_assoc, length-append, take-append-drop}
 use Rattle.std.proofs.Math.Nat.{le-min}
 use Rattle.std.proofs.lemmas.Bool.{cases_eq}
-use Rattle.std.proofs.lemmas.List.{take_at, drop_at, drop_more, take_all, drop_all, append-nil}
-use Rattle.gw_log.specs.Disk.{IsWritten, Torn, Cut}
-use Rattle.gw_log.specs.File.{body, blocks, AreShort, Has, HasEither, HasOrIs}
+use Rattle.std.proofs.lemmas.List.{take_at, drop_at, take_all, drop_all, append-nil}
+use Rattle.gw_log.specs.Disk.{IsMixed, IsWritten, Torn, Cut}
+use Rattle.gw_log.specs.File.{blocks, batch, AreShort, IsWhole, IsUnsynced, IsShut, IsEnd, Has, HasOrIs}
 use Rattle.gw_log.specs.State.{at_rest, staged}
-use Rattle.gw_log.specs.own.Steps.{BeginsStaged, UpTo}
-use Rattle.gw_log.proofs.Ends.{shut, at_most_one, front_unsynced, take_past, blocks-append, short-append}
+use Rattle.gw_log.specs.own.Steps.{BeginsStaged, HasAdded, UpTo}
+use Rattle.gw_log.proofs.Losing.{mixed_all}
+use Rattle.gw_log.proofs.Ends.{shut, front_unsynced, take_past, blocks-append, short-append}
+use Rattle.gw_log.proofs.Batches.{batch_size, opened_is, whole_same, has_unsynced, has_lone, has_shut, torn_batch}
 
--- these entries, and an end behind a gate that is shut
-pub has_shut : (entries : List (List ℕ)) (gate : ℕ) (more c : List ℕ) → (gate ≡ 1 → ⊥) → AreShort entries → c ≡ blocks entries ++ gate ∷ more → Has entries c
-has_shut entries gate more c differs short is = record { end = gate ∷ more; whole = is; short = short; unsynced = shut gate more differs }
+-- ---- a write
 
--- a closed gate behind the front, and what stands behind it
-module _ (front bytes : List ℕ) (at : ℕ) (size : at ≡ length front) where
-  abbrev pub staged_at : List ℕ
-  staged_at = front ++ 0 ∷ bytes
+-- behind the file
+pub torn_behind : (bytes file c : List ℕ) (at : ℕ) → at ≡ length file → Torn at bytes file c → (c ≡ file ++ drop at c) × IsMixed [] bytes (drop at c)
+torn_behind bytes file c at size torn = (
+  sym (take-append-drop at c) ∙ ap (λ (l : List ℕ). l ++ drop at c) (torn.before ∙ take_all at file (omega (arith, size))),
+  subst (λ l. IsMixed l bytes (drop at c)) (drop_all at file (omega (arith, size))) torn.mixed,
+)
 
-  length-resting : length (front ++ 0 ∷ []) ≡ at + 1
-  length-resting = omega (arith, size, length-append front (0 ∷ []))
+pub written_behind : (bytes file c : List ℕ) (at : ℕ) → at ≡ length file → IsWritten at bytes file c → c ≡ file ++ bytes
+written_behind bytes file c at size written =
+    written
+    ∙ ap (λ (l : List ℕ). l ++ bytes ++ drop (at + length bytes) file) (take_all at file (omega (arith, size)))
+    ∙ ap (λ (l : List ℕ). file ++ bytes ++ l) (drop_all (at + length bytes) file (omega (arith, size)))
+    ∙ append-nil (file ++ bytes)
 
-  -- the closed gate stands in each outcome of the first write
-  pub torn_behind : (n : ℕ) (c : List ℕ) → Torn (at + 1) n (front ++ 0 ∷ []) c → c ≡ front ++ 0 ∷ drop (at + 1) c
-  torn_behind n c torn =
-      let before : take (at + 1) c ≡ front ++ 0 ∷ [] = torn.before ∙ take_all _ _ (omega (arith, length-resting)) in
-      sym (take-append-drop (at + 1) c) ∙ ap (λ (l : List ℕ). l ++ drop (at + 1) c) before ∙ append_assoc front (0 ∷ []) (drop (at + 1) c)
+-- of a gate
+one_byte : (gate new : ℕ) (tail c : List ℕ) → IsMixed (gate ∷ tail) (new ∷ []) c → (c ≡ gate ∷ tail) ⊎ (c ≡ new ∷ tail)
+one_byte gate new tail [] mixed = absurd mixed
+one_byte gate new tail (x ∷ c) mixed = by mixed.0
+  where
+    by : (x ≡ gate) ⊎ (x ≡ new) → (x ∷ c ≡ gate ∷ tail) ⊎ (x ∷ c ≡ new ∷ tail)
+    by (inl is) = inl (ap (λ (n : ℕ). n ∷ c) is ∙ ap (λ (l : List ℕ). gate ∷ l) mixed.1)
+    by (inr is) = inr (ap (λ (n : ℕ). n ∷ c) is ∙ ap (λ (l : List ℕ). new ∷ l) mixed.1)
 
-  pub written_behind : (c : List ℕ) → IsWritten (at + 1) bytes (front ++ 0 ∷ []) c → c ≡ staged_at
-  written_behind c written =
+module _ (front tail : List ℕ) (gate at : ℕ) (size : at ≡ length front) where
+  pub torn_gate : (new : ℕ) (c : List ℕ) → Torn at (new ∷ []) (front ++ gate ∷ tail) c → (c ≡ front ++ gate ∷ tail) ⊎ (c ≡ front ++ new ∷ tail)
+  torn_gate new c torn =
+      by (one_byte gate new tail (drop at c) (subst (λ l. IsMixed l (new ∷ []) (drop at c)) (drop_at front (gate ∷ tail) at (sym size)) torn.mixed))
+    where
+      joined : (rest : List ℕ) → drop at c ≡ rest → c ≡ front ++ rest
+      joined rest is =
+          sym (take-append-drop at c) ∙ ap (λ (l : List ℕ). l ++ drop at c) (torn.before ∙ take_at front (gate ∷ tail) at (sym size))
+          ∙ ap (λ (l : List ℕ). front ++ l) is
+
+      by : (drop at c ≡ gate ∷ tail) ⊎ (drop at c ≡ new ∷ tail) → (c ≡ front ++ gate ∷ tail) ⊎ (c ≡ front ++ new ∷ tail)
+      by (inl is) = inl (joined (gate ∷ tail) is)
+      by (inr is) = inr (joined (new ∷ tail) is)
+
+  pub written_gate : (new : ℕ) (c : List ℕ) → IsWritten at (new ∷ []) (front ++ gate ∷ tail) c → c ≡ front ++ new ∷ tail
+  written_gate new c written =
+      let behind : drop (at + 1) (front ++ gate ∷ tail) ≡ tail =
+      ap (λ (l : List ℕ). drop (at + 1) l) (sym (append_assoc front (gate ∷ []) tail))
+      ∙ drop_at (front ++ gate ∷ []) tail (at + 1) (omega (arith, size, length-append front (gate ∷ []))) in
       written
-      ∙ ap (λ (l : List ℕ). l ++ bytes ++ drop (at + 1 + length bytes) (front ++ 0 ∷ [])) (take_all _ _ (omega (arith, length-resting)))
-      ∙ ap (λ (l : List ℕ). (front ++ 0 ∷ []) ++ bytes ++ l) (drop_all (at + 1 + length bytes) (front ++ 0 ∷ []) (omega (arith, length-resting)))
-      ∙ append-nil ((front ++ 0 ∷ []) ++ bytes)
-      ∙ append_assoc front (0 ∷ []) bytes
-
-  before_gate : take at staged_at ≡ front
-  before_gate = take_at front (0 ∷ bytes) at (sym size)
-
-  behind_gate : drop (at + 1) staged_at ≡ bytes
-  behind_gate = ap (λ (l : List ℕ). drop (at + 1) l) (sym (append_assoc front (0 ∷ []) bytes)) ∙ drop_at (front ++ 0 ∷ []) bytes (at + 1) length-resting
-
-  -- the bytes stand whole in each outcome of the second write
-  pub torn_gate : (c : List ℕ) → Torn at 1 staged_at c → c ≡ front ++ get_or c at 0 ∷ bytes
-  torn_gate c torn =
-      let gate = get_or c at 0 in
-      let rest : drop at c ≡ gate ∷ bytes = drop_more c at 0 (omega (arith, torn.no_shorter, size, length-append front (0 ∷ bytes)))
-      ∙ ap (λ (l : List ℕ). gate ∷ l) (torn.after ∙ behind_gate) in
-      sym (take-append-drop at c) ∙ ap (λ (l : List ℕ). l ++ drop at c) (torn.before ∙ before_gate) ∙ ap (λ (l : List ℕ). front ++ l) rest
-
-  pub written_gate : (c : List ℕ) → IsWritten at (1 ∷ []) staged_at c → c ≡ front ++ 1 ∷ bytes
-  written_gate c written =
-      written
-      ∙ ap (λ (l : List ℕ). l ++ (1 ∷ []) ++ drop (at + 1) staged_at) before_gate
-      ∙ ap (λ (l : List ℕ). front ++ (1 ∷ []) ++ l) behind_gate
-      ∙ append_assoc front (1 ∷ []) bytes
+      ∙ ap (λ (l : List ℕ). l ++ (new ∷ []) ++ drop (at + 1) (front ++ gate ∷ tail)) (take_at front (gate ∷ tail) at (sym size))
+      ∙ ap (λ (l : List ℕ). front ++ (new ∷ []) ++ l) behind
+      ∙ append_assoc front (new ∷ []) tail
 
 -- ---- a batch
 
--- the records behind a gate that is shut
-abbrev shut_front : List (List ℕ) → List ℕ
-shut_front [] = []
-shut_front (e ∷ more) = 0 ∷ body e ++ blocks more
+pub some_last : (end reach : ℕ) (last : List (List ℕ)) → reach ≡ end + length (blocks last) → end ≢ reach → 1 ≤ length last
+some_last end reach [] is differs = absurd (differs (omega (arith, is)))
+some_last end reach (e ∷ more) is differs = omega arith
 
-shut_is : (those : List (List ℕ)) → 0 ∷ drop 1 (at_rest those) ≡ shut_front those ++ 0 ∷ []
-shut_is [] = refl
-shut_is (e ∷ more) = refl
+pub none_last : (end reach : ℕ) (last : List (List ℕ)) → reach ≡ end + length (blocks last) → end ≡ reach → last ≡ []
+none_last end reach [] is same = refl
+none_last end reach (e ∷ more) is same = absurd (omega (arith, is, same))
 
-shut_size : (those : List (List ℕ)) → length (shut_front those) ≡ length (blocks those)
-shut_size [] = refl
-shut_size (e ∷ more) = refl
+module _ (gate close : ℕ) (these last : List (List ℕ)) (end reach : ℕ) (ends : end ≡ length (blocks these)) (reaches : reach ≡ end + length (blocks last)) where
+  pub size_is : reach + 1 ≡ length (staged gate close these last)
+  size_is = omega (arith, ends, reaches, length-append (blocks these) (gate ∷ batch close last), batch_size close last)
 
-opened_is : (those : List (List ℕ)) → 1 ≤ length those → 1 ∷ drop 1 (at_rest those) ≡ at_rest those
-opened_is [] some = absurd (omega (arith, some))
-opened_is (e ∷ more) some = refl
+  pub new_end : reach ≡ length (blocks (these ++ last))
+  new_end = omega (arith, ends, reaches, ap length (blocks-append these last), length-append (blocks these) (blocks last))
 
-pub tail_size : (more : List (List ℕ)) → length (drop 1 (at_rest more)) ≡ length (blocks more)
-tail_size [] = refl
-tail_size (e ∷ more) = omega (arith, length-append (body e ++ blocks more) (0 ∷ []))
+  -- the file with something behind it
+  pub at_gate : (rest file : List ℕ) → file ≡ staged gate close these last ++ rest → file ≡ blocks these ++ gate ∷ (batch close last ++ rest)
+  at_gate rest file is = is ∙ append_assoc (blocks these) (gate ∷ batch close last) rest
 
-pub some_pending : (end reach : ℕ) (those : List (List ℕ)) → reach ≡ end + length (blocks those) → end ≢ reach → 1 ≤ length those
-some_pending end reach [] is differs = absurd (differs (omega (arith, is)))
-some_pending end reach (e ∷ more) is differs = omega arith
-
-pub none_pending : (end reach : ℕ) (those : List (List ℕ)) → reach ≡ end + length (blocks those) → end ≡ reach → those ≡ []
-none_pending end reach [] is same = refl
-none_pending end reach (e ∷ more) is same = absurd (omega (arith, is, same))
-
-module _ (these those : List (List ℕ)) (end reach : ℕ) (ends : end ≡ length (blocks these)) (reaches : reach ≡ end + length (blocks those)) where
-  abbrev front : List ℕ
-  front = blocks these ++ shut_front those
-
-  staged_is : staged these those ≡ front ++ 0 ∷ []
-  staged_is = ap (λ (l : List ℕ). blocks these ++ l) (shut_is those) ∙ sym (append_assoc (blocks these) (shut_front those) (0 ∷ []))
-
-  reach_is : reach ≡ length front
-  reach_is = omega (arith, ends, reaches, length-append (blocks these) (shut_front those), shut_size those)
-
-  behind : (rest : List ℕ) → front ++ 0 ∷ rest ≡ staged these those ++ rest
-  behind rest = sym (append_assoc front (0 ∷ []) rest) ∙ ap (λ (l : List ℕ). l ++ rest) (sym staged_is)
-
-  pub first_crash : (n : ℕ) (file c : List ℕ) → file ≡ staged these those → Torn (reach + 1) n file c → BeginsStaged these those c
-  first_crash n file c is torn = record {
-    rest = drop (reach + 1) c;
-    whole = torn_behind front [] reach reach_is n c (subst (λ f. Torn (reach + 1) n f c) (is ∙ staged_is) torn) ∙ behind (drop (reach + 1) c);
-  }
-
-  pub first_done : (bytes file c : List ℕ) → file ≡ staged these those → IsWritten (reach + 1) bytes file c → c ≡ staged these those ++ bytes
-  first_done bytes file c is written =
-      written_behind front bytes reach reach_is c (subst (λ f. IsWritten (reach + 1) bytes f c) (is ∙ staged_is) written) ∙ behind bytes
-
-  -- the gate of what is pending is shut
-  pub still : (c : List ℕ) → AreShort these → BeginsStaged these those c → Has these c
-  still c short begins =
-      has_shut these 0 (drop 1 (at_rest those) ++ begins.rest) c (omega arith) short
-      (begins.whole ∙ append_assoc (blocks these) (0 ∷ drop 1 (at_rest those)) begins.rest)
-
-  at_gate : (file rest : List ℕ) → file ≡ staged these those ++ rest → file ≡ staged_at (blocks these) (drop 1 (at_rest those) ++ rest) end ends
-  at_gate file rest is = is ∙ append_assoc (blocks these) (0 ∷ drop 1 (at_rest those)) rest
-
-  opened : (rest c : List ℕ) → 1 ≤ length those → c ≡ blocks these ++ 1 ∷ (drop 1 (at_rest those) ++ rest) → c ≡ blocks (these ++ those) ++ 0 ∷ rest
+  pub opened : (rest c : List ℕ) → 1 ≤ length last → c ≡ blocks these ++ 1 ∷ (batch close last ++ rest) → c ≡ blocks (these ++ last) ++ close ∷ rest
   opened rest c some is =
-      is ∙ ap (λ (l : List ℕ). blocks these ++ (l ++ rest)) (opened_is those some)
-      ∙ ap (λ (l : List ℕ). blocks these ++ l) (append_assoc (blocks those) (0 ∷ []) rest)
-      ∙ sym (append_assoc (blocks these) (blocks those) (0 ∷ rest)) ∙ ap (λ (l : List ℕ). l ++ 0 ∷ rest) (sym (blocks-append these those))
+      is ∙ ap (λ (l : List ℕ). blocks these ++ l) (opened_is close last rest some)
+      ∙ sym (append_assoc (blocks these) (blocks last) (close ∷ rest)) ∙ ap (λ (l : List ℕ). l ++ close ∷ rest) (sym (blocks-append these last))
 
-  pub gate_crash : (file c : List ℕ) → 1 ≤ length those → AreShort these → AreShort those → BeginsStaged these those file → Torn end 1 file c
-      → HasEither these (these ++ those) c
-  gate_crash file c some short fits begins torn =
-      let tail = drop 1 (at_rest those) ++ begins.rest in
-      let found = torn_gate (blocks these) tail end ends c (subst (λ f. Torn end 1 f c) (at_gate file begins.rest begins.whole) torn) in
-      elim (cases_eq (get_or c end 0) 1) [
-        | inl is_open ↦ inr (has_shut (these ++ those) 0 begins.rest c (omega arith) (short-append these those short fits)
-            (opened begins.rest c some (found ∙ ap (λ (g : ℕ). blocks these ++ g ∷ tail) is_open)))
-        | inr is_shut ↦ inl (has_shut these (get_or c end 0) tail c is_shut short found)
-      ]
+  -- without a batch there is a gate alone
+  pub alone : (rest file : List ℕ) → last ≡ [] → file ≡ staged gate close these last ++ rest → file ≡ blocks (these ++ last) ++ gate ∷ rest
+  alone rest file none is =
+      at_gate rest file is ∙ ap (λ (l : List (List ℕ)). blocks these ++ gate ∷ (batch close l ++ rest)) none
+      ∙ ap (λ (l : List (List ℕ)). blocks l ++ gate ∷ rest) (sym (append-nil these) ∙ ap (λ (l : List (List ℕ)). these ++ l) (sym none))
 
-  pub gate_alone : (file c : List ℕ) → 1 ≤ length those → AreShort these → file ≡ staged these those → Torn end 1 file c → HasOrIs these (these ++ those) c
-  gate_alone file c some short is torn =
-      let tail = drop 1 (at_rest those) ++ [] in
-      let whole = is ∙ sym (append-nil (staged these those)) in
-      let found = torn_gate (blocks these) tail end ends c (subst (λ f. Torn end 1 f c) (at_gate file [] whole) torn) in
-      elim (cases_eq (get_or c end 0) 1) [
-        | inl is_open ↦ inr (opened [] c some (found ∙ ap (λ (g : ℕ). blocks these ++ g ∷ tail) is_open))
-        | inr is_shut ↦ inl (has_shut these (get_or c end 0) tail c is_shut short found)
-      ]
+-- ---- a batch is added
 
-  pub gate_done : (rest file c : List ℕ) → 1 ≤ length those → file ≡ staged these those ++ rest → IsWritten end (1 ∷ []) file c
-      → c ≡ blocks (these ++ those) ++ 0 ∷ rest
-  gate_done rest file c some is written =
-      let tail = drop 1 (at_rest those) ++ rest in
-      opened rest c some (written_gate (blocks these) tail end ends c (subst (λ f. IsWritten end (1 ∷ []) f c) (at_gate file rest is) written))
+module _ (gate close : ℕ) (these last more : List (List ℕ)) (end reach : ℕ) (ends : end ≡ length (blocks these)) (reaches : reach ≡ end + length (blocks last))
+    (differs : gate ≢ 1) (short : AreShort these) (fits : AreShort last) (few : AreShort more) where
+  pub first_crash : (bytes file c : List ℕ) → file ≡ staged gate 2 these last → Torn (reach + 1) bytes file c → BeginsStaged gate these last bytes c
+  first_crash bytes file c is torn =
+      let found = torn_behind bytes (staged gate 2 these last) c (reach + 1) (size_is gate 2 these last end reach ends reaches)
+      (subst (λ f. Torn (reach + 1) bytes f c) is torn) in
+      record { rest = drop (reach + 1) c; whole = found.0; mixed = found.1 }
 
-  pub new_end : reach ≡ length (blocks (these ++ those))
-  new_end = omega (arith, ends, reaches, ap length (blocks-append these those), length-append (blocks these) (blocks those))
+  pub first_done : (bytes file c : List ℕ) → file ≡ staged gate 2 these last → IsWritten (reach + 1) bytes file c → c ≡ staged gate 2 these last ++ bytes
+  first_done bytes file c is written =
+      written_behind bytes (staged gate 2 these last) c (reach + 1) (size_is gate 2 these last end reach ends reaches)
+      (subst (λ f. IsWritten (reach + 1) bytes f c) is written)
+
+  -- the gate of the last batch isn't open yet
+  pub still : (bytes c : List ℕ) → bytes ≡ batch close more → BeginsStaged gate these last bytes c → HasAdded close (these ++ last) more c
+  still bytes c is begins = elim (cases_eq end reach) [
+    | inl same ↦
+        torn_batch close gate (these ++ last) more begins.rest c differs (short-append these last short fits) few
+        (subst (λ b. IsMixed [] b begins.rest) is begins.mixed)
+        (alone gate 2 these last end reach ends reaches begins.rest c (none_last end reach last reaches same) begins.whole)
+    | inr some ↦
+        inl (has_shut these last gate begins.rest c differs short fits
+        (at_gate gate 2 these last end reach ends reaches begins.rest c begins.whole) (some_last end reach last reaches some))
+  ]
+
+  pub gate_crash : (bytes file c : List ℕ) → 1 ≤ length last → bytes ≡ batch close more → BeginsStaged gate these last bytes file → Torn end (1 ∷ []) file c
+      → HasAdded close (these ++ last) more c
+  gate_crash bytes file c some is begins torn =
+      by (torn_gate (blocks these) (batch 2 last ++ begins.rest) gate end ends 1 c
+      (subst (λ f. Torn end (1 ∷ []) f c) (at_gate gate 2 these last end reach ends reaches begins.rest file begins.whole) torn))
+    where
+      by : (c ≡ blocks these ++ gate ∷ (batch 2 last ++ begins.rest)) ⊎ (c ≡ blocks these ++ 1 ∷ (batch 2 last ++ begins.rest))
+          → HasAdded close (these ++ last) more c
+      by (inl old) = inl (has_shut these last gate begins.rest c differs short fits old some)
+      by (inr new) =
+          torn_batch close 2 (these ++ last) more begins.rest c (omega arith) (short-append these last short fits) few
+          (subst (λ b. IsMixed [] b begins.rest) is begins.mixed)
+          (opened gate 2 these last end reach ends reaches begins.rest c some new)
+
+  pub gate_done : (bytes file c : List ℕ) → 1 ≤ length last → file ≡ staged gate 2 these last ++ bytes → IsWritten end (1 ∷ []) file c
+      → c ≡ blocks (these ++ last) ++ 2 ∷ bytes
+  gate_done bytes file c some is written =
+      opened gate 2 these last end reach ends reaches bytes c some
+      (written_gate (blocks these) (batch 2 last ++ bytes) gate end ends 1 c
+      (subst (λ f. IsWritten end (1 ∷ []) f c) (at_gate gate 2 these last end reach ends reaches bytes file is) written))
+
+-- ---- the end of a file is opened
+
+module _ (gate : ℕ) (these last : List (List ℕ)) (end reach : ℕ) (ends : end ≡ length (blocks these)) (reaches : reach ≡ end + length (blocks last))
+    (differs : gate ≢ 1) (short : AreShort these) (fits : AreShort last) (some : 1 ≤ length last) where
+  whole_gate : (file : List ℕ) → file ≡ staged gate 0 these last → file ≡ blocks these ++ gate ∷ (batch 0 last ++ [])
+  whole_gate file is = at_gate gate 0 these last end reach ends reaches [] file (is ∙ sym (append-nil (staged gate 0 these last)))
+
+  pub end_crash : (file c : List ℕ) → file ≡ staged gate 0 these last → Torn end (1 ∷ []) file c → HasOrIs these (these ++ last) c
+  end_crash file c is torn =
+      by (torn_gate (blocks these) (batch 0 last ++ []) gate end ends 1 c (subst (λ f. Torn end (1 ∷ []) f c) (whole_gate file is) torn))
+    where
+      not : IsWhole (batch 0 last ++ []) → ⊥
+      not whole = omega (
+        arith,
+        (whole_same 0 last (batch 0 last) fits (mixed_all (batch 0 last)) (subst IsWhole (append-nil (batch 0 last)) whole)).0,
+      )
+
+      by : (c ≡ blocks these ++ gate ∷ (batch 0 last ++ [])) ⊎ (c ≡ blocks these ++ 1 ∷ (batch 0 last ++ [])) → HasOrIs these (these ++ last) c
+      by (inl old) = inl (has_unsynced these (gate ∷ (batch 0 last ++ [])) c short (shut gate (batch 0 last ++ []) differs not) old)
+      by (inr new) = inr (opened gate 0 these last end reach ends reaches [] c some new)
+
+  pub end_done : (file c : List ℕ) → file ≡ staged gate 0 these last → IsWritten end (1 ∷ []) file c → c ≡ at_rest (these ++ last)
+  end_done file c is written =
+      opened gate 0 these last end reach ends reaches [] c some
+      (written_gate (blocks these) (batch 0 last ++ []) gate end ends 1 c (subst (λ f. IsWritten end (1 ∷ []) f c) (whole_gate file is) written))
 
 -- ---- a repair
 
-module _ (file : List ℕ) (at : ℕ) (entries : List (List ℕ)) (up : UpTo file at entries) where
-  floor : length (blocks entries) ≤ min at (length file)
-  floor = le-min (omega (arith, up.here)) (omega (arith, ap length up.has.whole, length-append (blocks entries) up.has.end))
+module _ (file : List ℕ) (end reach size : ℕ) (records : List (List ℕ)) (up : UpTo file end reach size records) where
+  abbrev front : List (List ℕ)
+  front = up.has.front
 
-  -- any cut keeps the entries
-  pub cut_keeps : (c : List ℕ) → Cut at file c → Has entries c
-  cut_keeps c cut = record {
-    end = take (length c - length (blocks entries)) up.has.end;
-    whole = sym cut.front ∙ ap (λ (l : List ℕ). take (length c) l) up.has.whole
-        ∙ take_past (blocks entries) up.has.end (length c) (length c - length (blocks entries)) (omega (arith, cut.no_shorter, floor));
-    short = up.has.short;
-    unsynced = front_unsynced (length c - length (blocks entries)) up.has.end up.has.unsynced;
-  }
+  abbrev last : List (List ℕ)
+  last = up.has.last
 
-  pub cut_done : take at file ≡ blocks entries
-  cut_done = ap (λ (l : List ℕ). take at l) up.has.whole ∙ take_at (blocks entries) up.has.end at (sym up.here)
+  all_reach : reach ≡ end + length (blocks last)
+  all_reach =
+      omega (arith, up.here, up.reaches, ap length (ap blocks up.has.all ∙ blocks-append front last), length-append (blocks front) (blocks last))
 
-  -- one byte behind the entries is none
-  pub torn_end : (f c : List ℕ) → f ≡ blocks entries → Torn at 1 f c → Has entries c
-  torn_end f c is torn =
-      let front : take at c ≡ blocks entries = torn.before ∙ ap (λ (l : List ℕ). take at l) is ∙ take_all at (blocks entries) (omega (arith, up.here)) in
-      let size : length f ≡ length (blocks entries) = ap length is in
-      record {
-        end = drop at c;
-        whole = sym (take-append-drop at c) ∙ ap (λ (l : List ℕ). l ++ drop at c) front;
-        short = up.has.short;
-        unsynced = at_most_one (drop at c) (omega (arith, length-drop at c, up.here, size, torn.no_longer));
-      }
+  size_alone : end ≡ reach → size ≡ reach
+  size_alone same = by up.keeps
+    where
+      by : ((end ≡ reach) × (size ≡ reach)) ⊎ ((end ≢ reach) × (size ≡ reach + 1)) → size ≡ reach
+      by (inl both) = both.1
+      by (inr both) = absurd (both.0 same)
+
+  size_shut : end ≢ reach → size ≡ reach + 1
+  size_shut differs = by up.keeps
+    where
+      by : ((end ≡ reach) × (size ≡ reach)) ⊎ ((end ≢ reach) × (size ≡ reach + 1)) → size ≡ reach + 1
+      by (inl both) = absurd (differs both.0)
+      by (inr both) = both.1
+
+  -- nothing stands behind the open gates
+  module _ (same : end ≡ reach) where
+    none : last ≡ []
+    none = none_last end reach last all_reach same
+
+    is_front : front ≡ records
+    is_front = sym (append-nil front) ∙ ap (λ (l : List (List ℕ)). front ++ l) (sym none) ∙ sym up.has.all
+
+    whole_alone : file ≡ blocks records ++ up.has.end
+    whole_alone = up.has.whole ∙ ap (λ (l : List (List ℕ)). blocks l ++ up.has.end) is_front
+
+    short_alone : AreShort records
+    short_alone = subst AreShort is_front up.has.short
+
+    unsynced : IsUnsynced up.has.end
+    unsynced = by up.has.ends
+      where
+        by : IsEnd last up.has.end → IsUnsynced up.has.end
+        by (inl is) = is.1
+        by (inr shut) = absurd (omega (arith, shut.some, ap length none))
+
+    keeps_alone : (c : List ℕ) → Cut size file c → Has records c
+    keeps_alone c cut =
+        let floor : length (blocks records) ≤ min size (length file) =
+        le-min (omega (arith, up.reaches, size_alone same)) (omega (arith, ap length whole_alone, length-append (blocks records) up.has.end)) in
+        let k = length c - length (blocks records) in
+        has_unsynced records (take k up.has.end) c short_alone (front_unsynced k up.has.end unsynced)
+        (sym cut.front ∙ ap (λ (l : List ℕ). take (length c) l) whole_alone
+        ∙ take_past (blocks records) up.has.end (length c) k (omega (arith, cut.no_shorter, floor)))
+
+    pub cut_alone : take size file ≡ blocks records
+    cut_alone = ap (λ (l : List ℕ). take size l) whole_alone ∙ take_at (blocks records) up.has.end size (omega (arith, up.reaches, size_alone same))
+
+    pub torn_alone : (f c : List ℕ) → f ≡ take size file → Torn reach (2 ∷ []) f c → Has records c
+    torn_alone f c is torn =
+        let found = torn_behind (2 ∷ []) (blocks records) c reach up.reaches (subst (λ l. Torn reach (2 ∷ []) l c) (is ∙ cut_alone) torn) in
+        has_unsynced records (drop reach c) c short_alone (one (drop reach c) found.1) found.0
+      where
+        one : (left : List ℕ) → IsMixed [] (2 ∷ []) left → IsUnsynced left
+        one [] mixed = tt
+        one (x ∷ rest) mixed = subst (λ l. IsUnsynced (x ∷ l)) (sym mixed.1) tt
+
+    pub done_alone : (f c : List ℕ) → f ≡ take size file → IsWritten reach (2 ∷ []) f c → c ≡ staged 2 2 records []
+    done_alone f c is written = written_behind (2 ∷ []) (blocks records) c reach up.reaches (subst (λ l. IsWritten reach (2 ∷ []) l c) (is ∙ cut_alone) written)
+
+  -- a whole batch stands behind them
+  module _ (differs : end ≢ reach) where
+    some : 1 ≤ length last
+    some = some_last end reach last all_reach differs
+
+    pub shut_end : IsShut last up.has.end
+    shut_end = by up.has.ends
+      where
+        by : IsEnd last up.has.end → IsShut last up.has.end
+        by (inl is) = absurd (omega (arith, some, ap length is.0))
+        by (inr shut) = shut
+
+    abbrev gate : ℕ
+    gate = shut_end.gate
+
+    abbrev kept : List ℕ
+    kept = staged gate 2 front last
+
+    whole_shut : file ≡ kept ++ shut_end.more
+    whole_shut =
+        up.has.whole ∙ ap (λ (l : List ℕ). blocks front ++ l) shut_end.whole
+        ∙ sym (append_assoc (blocks front) (gate ∷ batch 2 last) shut_end.more)
+
+    kept_size : size ≡ length kept
+    kept_size = size_shut differs ∙ size_is gate 2 front last end reach up.here all_reach
+
+    records_are : (f : List ℕ) → Has (front ++ last) f → Has records f
+    records_are f has = subst (λ l. Has l f) (sym up.has.all) has
+
+    keeps_shut : (c : List ℕ) → Cut size file c → Has records c
+    keeps_shut c cut =
+        let floor : length kept ≤ min size (length file) =
+        le-min (omega (arith, kept_size)) (omega (arith, ap length whole_shut, length-append kept shut_end.more)) in
+        let k = length c - length kept in
+        records_are c (has_shut front last gate (take k shut_end.more) c shut_end.not_open up.has.short shut_end.short
+        (at_gate gate 2 front last end reach up.here all_reach (take k shut_end.more) c
+        (sym cut.front ∙ ap (λ (l : List ℕ). take (length c) l) whole_shut
+        ∙ take_past kept shut_end.more (length c) k (omega (arith, cut.no_shorter, floor)))) some)
+
+    pub cut_shut : take size file ≡ kept
+    cut_shut = ap (λ (l : List ℕ). take size l) whole_shut ∙ take_at kept shut_end.more size (sym kept_size)
+
+    last_gate : (f : List ℕ) → f ≡ take size file → f ≡ blocks front ++ gate ∷ (batch 2 last ++ [])
+    last_gate f is = at_gate gate 2 front last end reach up.here all_reach [] f (is ∙ cut_shut ∙ sym (append-nil kept))
+
+    all_open : (c : List ℕ) → c ≡ blocks front ++ 1 ∷ (batch 2 last ++ []) → c ≡ staged 2 2 records []
+    all_open c is = opened gate 2 front last end reach up.here all_reach [] c some is ∙ ap (λ (l : List (List ℕ)). blocks l ++ 2 ∷ []) (sym up.has.all)
+
+    pub torn_shut : (f c : List ℕ) → f ≡ take size file → Torn end (1 ∷ []) f c → Has records c
+    torn_shut f c is torn =
+        by (torn_gate (blocks front) (batch 2 last ++ []) gate end up.here 1 c (subst (λ l. Torn end (1 ∷ []) l c) (last_gate f is) torn))
+      where
+        by : (c ≡ blocks front ++ gate ∷ (batch 2 last ++ [])) ⊎ (c ≡ blocks front ++ 1 ∷ (batch 2 last ++ [])) → Has records c
+        by (inl old) = records_are c (has_shut front last gate [] c shut_end.not_open up.has.short shut_end.short old some)
+        by (inr new) =
+            has_lone records 2 c (subst AreShort (sym up.has.all) (short-append front last up.has.short shut_end.short)) (all_open c new)
+
+    pub done_shut : (f c : List ℕ) → f ≡ take size file → IsWritten end (1 ∷ []) f c → c ≡ staged 2 2 records []
+    done_shut f c is written =
+        all_open c (written_gate (blocks front) (batch 2 last ++ []) gate end up.here 1 c (subst (λ l. IsWritten end (1 ∷ []) l c) (last_gate f is) written))
+
+  -- any cut keeps the records
+  pub cut_keeps : (c : List ℕ) → Cut size file c → Has records c
+  cut_keeps c cut = elim (cases_eq end reach) [
+    | inl same ↦ keeps_alone same c cut
+    | inr differs ↦ keeps_shut differs c cut
+  ]
+
+  pub short_all : AreShort records
+  short_all = elim (cases_eq end reach) [
+    | inl same ↦ short_alone same
+    | inr differs ↦ subst AreShort (sym up.has.all) (short-append front last up.has.short (shut_end differs).short)
+  ]

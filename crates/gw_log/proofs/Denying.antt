@@ -1,27 +1,24 @@
 -- A folder that is reported damaged is no log.
-use Rattle.std.proofs.Common.{◌≡◌, inl, inr, ℕ, ◌+◌, ◌-◌, ◌<◌, ◌≤◌, List, ◌∷◌, ◌++◌, length, drop, refl, sym, ◌∙◌, ap, subst, arith, append_assoc, Result, Ok, Err, IsErr, IsErrAnd, IsErrOf}
+use Rattle.std.proofs.Common.{◌≡◌, inl, inr, ℕ, ◌+◌, ◌-◌, ◌<◌, ◌≤◌, List, ◌∷◌, length, drop, refl, sym, ◌∙◌, ap, subst, arith, Result, Ok, Err, IsErr, IsErrAnd, IsErrOf}
 use Rattle.std.proofs.lemmas.Bool.{cases_eq}
 use Rattle.gw_log.specs.Disk.{Files, AreEnds}
-use Rattle.gw_log.specs.File.{body, blocks, Has, HasNoRecord, HasRecordAt, IsDamagedAt}
-use Rattle.gw_log.specs.Chain.{Head, spelled, IsWide, ended, AreBefore, none, more, Origin, IsLog, HasHead}
+use Rattle.gw_log.specs.File.{Has, HasNoRecord, HasRecordAt, IsDamagedAt}
+use Rattle.gw_log.specs.Chain.{Head, spelled, IsWide, ended, AreBefore, none, more, Origin, IsLog, IsNoLog, HasHead}
 use Rattle.gw_log.specs.Opening.{BeginsAs, IsSealed}
-use Rattle.gw_log.specs.own.Opens.{HasNoHead, IsNoLogOf, IsNoLogUpTo}
+use Rattle.gw_log.specs.Opening.{IsOnlyOf}
+use Rattle.gw_log.specs.own.Opens.{HasNoHead, IsHeadedBy, IsNoLogOf, IsNoLogUpTo}
 use Rattle.gw_log.specs.own.Steps.{UpTo}
-use Rattle.gw_log.proofs.Ways.{first_same, not_both}
+use Rattle.gw_log.proofs.Ways.{first_there, first_is, not_both}
 use Rattle.gw_log.proofs.Placing.{same_numbers, first_of, next_of, has_ended}
-use Rattle.gw_log.proofs.Founding.{last_within, top_near, least_is, last_open}
-
-head_whole : (h : Head) (records : List (List ℕ)) (file : List ℕ) (has : Has (spelled h ∷ records) file) → file ≡ 1 ∷ body (spelled h) ++ (blocks records ++ has.end)
-head_whole h records file has = has.whole ∙ ap (λ (l : List ℕ). 1 ∷ l) (append_assoc (body (spelled h)) (blocks records) has.end)
+use Rattle.gw_log.proofs.Founding.{first_counts, last_within, top_near, least_is, last_open}
 
 -- the record at a file's front is its head
 same_first : (id n b : ℕ) (bytes file : List ℕ) (h : HasHead id n b file) → HasRecordAt 0 bytes file → bytes ≡ spelled h.head
-same_first id n b bytes file h here =
-    (first_same bytes (spelled h.head) (drop (0 + length (1 ∷ body bytes)) file) (blocks h.records ++ h.has.end) here.short h.has.short.0
-    (sym here.whole ∙ head_whole h.head h.records file h.has)).0
+same_first id n b bytes file h here = first_is bytes (spelled h.head) h.records file here h.has
 
 pub no_record_there : (id n : ℕ) (file : List ℕ) → HasNoRecord (drop 0 file) → HasNoHead id n file
-no_record_there id n file bare b h = bare (spelled h.head) (blocks h.records ++ h.has.end) h.has.short.0 (head_whole h.head h.records file h.has)
+no_record_there id n file bare b h =
+    let it = first_there (spelled h.head) h.records file h.has in bare it.gate (spelled h.head) it.more it.short it.whole
 
 pub no_head_there : (id n : ℕ) (read bytes file : List ℕ) → HasRecordAt 0 bytes file → read ≡ bytes → length read < 40 → HasNoHead id n file
 no_head_there id n read bytes file here is short b h = omega (arith, short, ap length is, ap length (same_first id n b bytes file h here))
@@ -31,6 +28,12 @@ pub other_there : (id n : ℕ) (g : Head) (read bytes file : List ℕ) → HasRe
 other_there id n g read bytes file here is spells wide differs b h =
     let same = same_numbers g h.head wide h.wide (sym spells ∙ is ∙ same_first id n b bytes file h here) in
     differs (same.0 ∙ h.its_number) (same.4 ∙ h.its_id)
+
+-- a head of the file is one of the log whose head was read
+pub headed_by : (g : Head) (read bytes file : List ℕ) → HasRecordAt 0 bytes file → read ≡ bytes → read ≡ spelled g → IsWide g → IsHeadedBy g.id file
+headed_by g read bytes file here is spells wide other n b h =
+    let same = same_numbers g h.head wide h.wide (sym spells ∙ is ∙ same_first other n b bytes file h here) in
+    sym (same.4 ∙ h.its_id)
 
 before_is : (id n b f before o : ℕ) (file : List ℕ) → HasHead id n b file → BeginsAs id n f before o file → before ≡ b
 before_is id n b f before o file h begins =
@@ -51,8 +54,8 @@ module _ (id : ℕ) (files : Files) (from : Origin) (head : Head) (records : Lis
   size_is n f before o le lt begins =
       before_is id (n + 1) (length (files n)) f before o (files (n + 1)) (next_of id files from head records log n (omega (arith, le, start)) (omega (arith, lt, end))) begins
 
-  pub oldest_is : (n f before o : ℕ) → n ≡ last → BeginsAs id n f before o (files n) → o < first → ⊥
-  oldest_is n f before o is begins lt =
+  pub keep_is : (n f before o g b p : ℕ) → n ≡ last → BeginsAs id n f before o (files n) → BeginsAs id first g b p (files first) → o < g → ⊥
+  keep_is n f before o g b p is begins opens lt =
       let its : HasHead head.id head.number head.before (files head.number) = record {
         head = head;
         records = log.these;
@@ -65,7 +68,20 @@ module _ (id : ℕ) (files : Files) (from : Origin) (head : Head) (records : Lis
       let here = subst (λ k. HasRecordAt 0 (spelled begins.head) (files k)) (is ∙ sym end) begins.here in
       let same = same_numbers begins.head head begins.wide log.last.wide
       (same_first head.id head.number head.before (spelled begins.head) (files head.number) its here) in
-      omega (arith, lt, begins.its_oldest, same.3, log.there, start)
+      let counts = first_counts id files head log.these from.number from.first from.before log.front log.last log.ended g b p
+      (subst (λ k. BeginsAs id k g b p (files k)) (sym start) opens) in
+      omega (arith, lt, begins.its_keep, same.3, log.there, counts)
+
+-- by the head of the first file
+pub only_of : (id first last : ℕ) (files : Files) → AreEnds first last files → IsHeadedBy id (files first) → IsOnlyOf id files
+only_of id first last files ends by other from head records log =
+    let least = least_is other files from head records log first last ends in
+    by other from.number from.before (subst (λ k. HasHead other from.number from.before (files k)) least (first_of other files from head records log))
+
+pub none_of : (first last : ℕ) (files : Files) → AreEnds first last files → ((id n : ℕ) → HasNoHead id n (files first)) → (id : ℕ) → IsNoLog id files
+none_of first last files ends not id from head records log =
+    let least = least_is id files from head records log first last ends in
+    not id from.number from.before (subst (λ k. HasHead id from.number from.before (files k)) least (first_of id files from head records log))
 
 -- ---- the last file
 
@@ -99,14 +115,20 @@ module _ (id : ℕ) (files : Files) (from : Origin) (head : Head) (records : Lis
         at_last at (top - 1) (omega (arith, differs, (last_within id files from head records log first top ends).1, top_near id files from head records log first top ends)) damage
   ]
 
-  pub last_is_open : (rows : List (List ℕ)) (end : ℕ) → head.number ≡ top → UpTo (files top) end rows → IsSealed rows → ⊥
-  last_is_open rows end is up sealed =
+  pub last_is_open : (rows : List (List ℕ)) (end reach size : ℕ) → head.number ≡ top → UpTo (files top) end reach size rows → IsSealed rows → ⊥
+  last_is_open rows end reach size is up sealed =
       last_open head log.these rows (files head.number) log.last (subst (λ k. Has rows (files k)) (sym is) up.has) sealed
 
 -- ---- what was read before a step, of what is there after it
 
 pub no_head_same : (id n : ℕ) (f g : Files) → f ≡ g → HasNoHead id n (f n) → HasNoHead id n (g n)
 no_head_same id n f g is denied = subst (λ (h : Files). HasNoHead id n (h n)) is denied
+
+pub headed_same : (id n : ℕ) (f g : Files) → f ≡ g → IsHeadedBy id (f n) → IsHeadedBy id (g n)
+headed_same id n f g is by = subst (λ (h : Files). IsHeadedBy id (h n)) is by
+
+pub unheaded_same : (k : ℕ) (f g : Files) → f ≡ g → ((id n : ℕ) → HasNoHead id n (f k)) → (id n : ℕ) → HasNoHead id n (g k)
+unheaded_same k f g is denied = subst (λ (h : Files). (id n : ℕ) → HasNoHead id n (h k)) is denied
 
 pub damaged_same : (at n : ℕ) (f g : Files) → f ≡ g → IsDamagedAt at (f n) → IsDamagedAt at (g n)
 damaged_same at n f g is damage = subst (λ (h : Files). IsDamagedAt at (h n)) is damage

@@ -1,16 +1,17 @@
 -- What is found in a folder when a log is opened.
-use Rattle.std.proofs.Common.{◌≡◌, ◌≢◌, inl, inr, ⊎_elim, ℕ, ◌+◌, ◌-◌, ◌<◌, ◌≤◌, List, [], ◌∷◌, ◌++◌, length, drop, refl, sym, ◌∙◌, ap, subst, arith, append_assoc, length-append}
+use Rattle.std.proofs.Common.{◌≡◌, ◌≢◌, inl, inr, ⊎_elim, ℕ, ◌+◌, ◌-◌, ◌<◌, ◌≤◌, List, [], ◌∷◌, ◌++◌, length, refl, sym, ◌∙◌, ap, subst, arith, length-append}
 use Rattle.std.specs.Prelude.{Vec, false}
 use Rattle.std.specs.declared.alloc.Global.{Global}
 use Rattle.std.proofs.lemmas.Bool.{cases_eq, cases_lt}
+use Rattle.std.proofs.lemmas.List.{append-nil}
 use Rattle.gw_log.specs.Disk.{Files, Only, AreEnds, Changes}
-use Rattle.gw_log.specs.File.{body, blocks, Has, HasRecordAt}
+use Rattle.gw_log.specs.File.{Has, HasRecordAt}
 use Rattle.gw_log.specs.State.{records_of, SegmentState, IsStaged}
 use Rattle.gw_log.specs.Chain.{Head, spelled, AreSome, IsEnded, ended, AreBefore, none, more, IsUnborn, Origin, IsLast, IsLog, LogState, Holds}
-use Rattle.gw_log.specs.Opening.{BeginsAs, AreOfLast, IsSealed}
+use Rattle.gw_log.specs.Opening.{BeginsAs, BeginsBy, IsPlaced, AreLinked, AreOfLast, IsSealed}
 use Rattle.gw_log.specs.own.Opens.{Reads, IsTrimmed, IsFound, IsLastOf, IsTop}
 use Rattle.gw_log.specs.own.Steps.{UpTo}
-use Rattle.gw_log.proofs.Ways.{first_same, one_way}
+use Rattle.gw_log.proofs.Ways.{first_is, one_way}
 use Rattle.gw_log.proofs.Logs.{before_le, before_same, no_file}
 use Rattle.gw_log.proofs.Placing.{same_numbers, some_there, has_ended, listless}
 
@@ -62,16 +63,16 @@ module _ (id : ℕ) (files : Files) (from : Origin) (head : Head) (records : Lis
   ]
 
   -- where the file before the top one isn't ended, it is the last
-  pub former_last : (former : List (List ℕ)) (end : ℕ) → first < top → UpTo (files (top - 1)) end former → (IsSealed former → ⊥) → head.number ≡ top - 1
-  former_last former end lt up not = elim (cases_eq head.number top) [
+  pub former_last : (former : List (List ℕ)) (end reach size : ℕ) → first < top → UpTo (files (top - 1)) end reach size former → (IsSealed former → ⊥) → head.number ≡ top - 1
+  former_last former end reach size lt up not = elim (cases_eq head.number top) [
     | inl is ↦ absurd (not (sealed_at id files head from.number from.first from.before log.front former (top - 1) (omega (arith, lt, least_is))
         (omega (arith, lt, is)) log.ended up.has))
     | inr differs ↦ omega (arith, differs, last_within.1, top_near)
   ]
 
   -- where it is ended, the top one is
-  pub top_behind : (former : List (List ℕ)) (end : ℕ) → first < top → UpTo (files (top - 1)) end former → IsSealed former → head.number ≡ top
-  top_behind former end lt up sealed = elim (cases_eq head.number top) [
+  pub top_behind : (former : List (List ℕ)) (end reach size : ℕ) → first < top → UpTo (files (top - 1)) end reach size former → IsSealed former → head.number ≡ top
+  top_behind former end reach size lt up sealed = elim (cases_eq head.number top) [
     | inl is ↦ is
     | inr differs ↦
         let here : top - 1 ≡ head.number = omega (arith, differs, last_within.1, top_near) in
@@ -86,8 +87,8 @@ module _ (id : ℕ) (files : Files) (from : Origin) (head : Head) (records : Lis
   ]
 
   -- and where it has more than a head
-  pub top_long : (rows : List (List ℕ)) (end : ℕ) → 1 < length rows → UpTo (files top) end rows → head.number ≡ top
-  top_long rows end long up = elim (cases_eq head.number top) [
+  pub top_long : (rows : List (List ℕ)) (end reach size : ℕ) → 1 < length rows → UpTo (files top) end reach size rows → head.number ≡ top
+  top_long rows end reach size long up = elim (cases_eq head.number top) [
     | inl is ↦ is
     | inr differs ↦
         let here : top ≡ head.number + 1 = omega (arith, differs, last_within.1, top_near) in
@@ -101,17 +102,25 @@ module _ (id : ℕ) (files : Files) (from : Origin) (head : Head) (records : Lis
       let file = files head.number in
       let begun : HasRecordAt 0 (spelled begins.head) file = subst (λ k. HasRecordAt 0 (spelled begins.head) (files k)) (sym is) begins.here in
       let g = begins.head in
-      let last = log.last.has in
-      let whole : 1 ∷ body (spelled g) ++ drop (0 + length (1 ∷ body (spelled g))) file ≡ 1 ∷ body (spelled head) ++ (blocks log.these ++ last.end) =
-      sym begun.whole ∙ last.whole ∙ ap (λ (l : List ℕ). 1 ∷ l) (append_assoc (body (spelled head)) (blocks log.these) last.end) in
-      let same = first_same (spelled g) (spelled head) (drop (0 + length (1 ∷ body (spelled g))) file) (blocks log.these ++ last.end) begun.short last.short.0 whole in
-      let numbers = same_numbers g head begins.wide log.last.wide same.0 in
+      let numbers = same_numbers g head begins.wide log.last.wide (first_is (spelled g) (spelled head) log.these file begun log.last.has) in
       record {
         its_number = is;
         its_first = sym numbers.1 ∙ begins.its_first;
-        its_oldest = sym numbers.3 ∙ begins.its_oldest;
+        its_keep = sym numbers.3 ∙ begins.its_keep;
         its_least = least_is;
       }
+
+-- the head of the first file says how many records stand before it
+pub first_counts : (id : ℕ) (files : Files) (last : Head) (these : List (List ℕ)) (n f b : ℕ) (front : List (List ℕ)) → IsLast last these (files last.number)
+    → AreBefore id files last n f b front → (g before keep : ℕ) → BeginsAs id n g before keep (files n) → g ≡ f
+first_counts id files last these n f b _ is (none _ _ _ fol) g before keep begins =
+    let has = subst (λ k. Has (spelled last ∷ these) (files k)) fol.its_number is.has in
+    let same = same_numbers begins.head last begins.wide is.wide (first_is (spelled begins.head) (spelled last) these (files n) begins.here has) in
+    sym begins.its_first ∙ same.1 ∙ fol.its_first
+first_counts id files last these n f b _ is (more _ _ _ h some those fol here rest) g before keep begins =
+    let has = has_ended h some (files n) here in
+    let same = same_numbers begins.head h begins.wide here.wide (first_is (spelled begins.head) (spelled h) (some ++ [] ∷ []) (files n) begins.here has) in
+    sym begins.its_first ∙ same.1 ∙ fol.its_first
 
 -- ---- the records of the last file
 
@@ -195,8 +204,8 @@ module _ (id : ℕ) (files : Files) (from : Origin) (head : Head) (records : Lis
 
 -- ---- what was read before a step, of what is there after it
 
-pub up_same : (f g : Files) (n end : ℕ) (rows : List (List ℕ)) → f ≡ g → UpTo (f n) end rows → UpTo (g n) end rows
-up_same f g n end rows is up = subst (λ (h : Files). UpTo (h n) end rows) is up
+pub up_same : (f g : Files) (n end reach size : ℕ) (rows : List (List ℕ)) → f ≡ g → UpTo (f n) end reach size rows → UpTo (g n) end reach size rows
+up_same f g n end reach size rows is up = subst (λ (h : Files). UpTo (h n) end reach size rows) is up
 
 pub begins_same : (id n a b o : ℕ) (f g : Files) → f ≡ g → BeginsAs id n a b o (f n) → BeginsAs id n a b o (g n)
 begins_same id n a b o f g is begins = subst (λ (h : Files). BeginsAs id n a b o (h n)) is begins
@@ -230,27 +239,32 @@ last_kept last top files was mid is others kept = sym (elim (cases_eq last top) 
 -- ---- the log
 
 module _ {D : Type 0} (seen : D → Files) (may_leave : D → Files → Type 0) (id : ℕ) (base : Files) (from : Origin) (head : Head) (records : List (List ℕ)) (log : IsLog id base from head records)
-    (disk : D) (number end first oldest least count : ℕ) where
+    (disk : D) (number end first keep least count : ℕ) where
   abbrev at : SegmentState D
   at = record { disk = disk; number = number; end = end; reach = end; broken = false }
 
   abbrev over : SegmentState D → LogState D
-  over segment = record { segment = segment; id = id; first = first; count = count; oldest = oldest; least = least }
+  over segment = record { segment = segment; id = id; first = first; count = count; keep = keep; least = least }
 
-  pub opened : (s : SegmentState D) (rows : List (List ℕ)) → s ≡ at → Has rows (base number) → IsFound from head number first oldest least
-      → IsStaged seen may_leave disk number end end rows [] → ((m : ℕ) → m < number → seen disk m ≡ base m) → ((m : ℕ) → number < m → seen disk m ≡ [])
-      → count ≡ length rows - 1 → Holds seen may_leave (over s) from head records []
+  pub opened : (s : SegmentState D) (rows : List (List ℕ)) → s ≡ at → Has rows (base number) → IsFound from head number first keep least
+      → IsStaged seen may_leave 2 disk number end end rows [] → ((m : ℕ) → m < number → seen disk m ≡ base m) → ((m : ℕ) → number < m → seen disk m ≡ [])
+      → count ≡ length rows - 1 → Holds seen may_leave (over s) from head records
   opened s rows is has found staged below above count_is =
       let rows_are = one_way (base head.number) rows (spelled head ∷ log.these) (subst (λ k. Has rows (base k)) (sym found.its_number) has) log.last.has in
       let low : from.number ≤ number = omega (arith, reach id base from head records log, found.its_number) in
-      subst (λ t. Holds seen may_leave (over t) from head records []) (sym is) (record {
+      subst (λ t. Holds seen may_leave (over t) from head records) (sym is) (record {
         front = log.front;
         these = log.these;
         ended = before_same id base (seen disk) head from.number from.first from.before log.front (λ m lt. below m (omega (arith, lt, found.its_number))) log.ended;
         wide = log.last.wide;
         some = log.last.some;
-        fresh = tt;
-        stands = record { unbroken = refl; staged = subst (λ l. IsStaged seen may_leave disk number end end l []) rows_are staged };
+        stands = record {
+          unbroken = refl;
+          these = rows;
+          last = [];
+          all = sym rows_are ∙ sym (append-nil rows);
+          staged = staged;
+        };
         number = found.its_number;
         all = log.all;
         there = log.there;
@@ -258,13 +272,39 @@ module _ {D : Type 0} (seen : D → Files) (may_leave : D → Files → Type 0) 
         none_above = λ m lt. above m (omega (arith, lt, found.its_number));
         first = found.its_first;
         count = omega (arith, count_is, ap length rows_are);
-        oldest = found.its_oldest;
+        keep = found.its_keep;
         least = found.its_least;
       })
 
 pub none_behind : (files : Files) (last top : ℕ) → IsTop files last top → (n : ℕ) → last + 1 < n → files n ≡ []
 none_behind files last top at n lt = at.none n (omega (arith, lt, at.high))
 
-pub head_at : (id n k first before oldest : ℕ) (files : Files) → n ≡ k → BeginsAs id k first before oldest (files k)
-    → (length_before : ℕ) × BeginsAs id n first length_before oldest (files n)
-head_at id n k first before oldest files is begins = (before, subst (λ m. BeginsAs id m first before oldest (files m)) (sym is) begins)
+pub head_at : (id n k first before keep : ℕ) (files : Files) → n ≡ k → BeginsAs id k first before keep (files k)
+    → (length_before : ℕ) × BeginsAs id n first length_before keep (files n)
+head_at id n k first before keep files is begins = (before, subst (λ m. BeginsAs id m first before keep (files m)) (sym is) begins)
+
+-- one file more is linked
+pub link_more : (id first n : ℕ) (files : Files) → AreLinked id files first n → IsPlaced id (n + 1) (length (files n)) (files (n + 1)) → AreLinked id files first (n + 1)
+link_more id first n files linked placed = record {
+  before = linked.before;
+  start = linked.start;
+  next = λ k low lt. elim (cases_eq k n) [
+    | inl is ↦ subst (λ j. IsPlaced id (j + 1) (length (files j)) (files (j + 1))) (sym is) placed
+    | inr differs ↦ linked.next k low (omega (arith, lt, differs))
+  ];
+}
+
+pub placed_so : (id n first before keep size : ℕ) (files : Files) → BeginsAs id (n + 1) first before keep (files (n + 1)) → before ≡ size → size ≡ length (files n)
+    → IsPlaced id (n + 1) (length (files n)) (files (n + 1))
+placed_so id n first before keep size files begins is long = record {
+  first = first;
+  keep = keep;
+  begins = subst (λ b. BeginsAs id (n + 1) first b keep (files (n + 1))) (is ∙ long) begins;
+}
+
+-- the first file of those that are linked
+pub begins_by : (id n first before keep place : ℕ) (file : List ℕ) → BeginsAs id n first before keep file → first ≤ place → BeginsBy id n place file
+begins_by id n first before keep place file begins le = record { first = first; before = before; keep = keep; begins = begins; within = le }
+
+pub by_same : (id n place : ℕ) (f g : Files) → f ≡ g → BeginsBy id n place (f n) → BeginsBy id n place (g n)
+by_same id n place f g is begins = subst (λ (h : Files). BeginsBy id n place (h n)) is begins

@@ -1,4 +1,6 @@
 pub mod Moments
+mod Losing
+pub mod Batches
 mod Ends
 pub mod Crash
 mod Ways

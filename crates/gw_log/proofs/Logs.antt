@@ -4,13 +4,11 @@ use Rattle.std.proofs.Common.{get_or}
 use Rattle.std.specs.Prelude.{Vec}
 use Rattle.std.specs.declared.alloc.Global.{Global}
 use Rattle.gw_log.specs.Disk.{Files, Changes}
-use Rattle.gw_log.specs.File.{Has, HasEither, HasOrIs, AreInLimit}
-use Rattle.std.proofs.Common.{drop}
-use Rattle.gw_log.specs.State.{at_rest, staged, Stands, records_of}
+use Rattle.gw_log.specs.File.{Has, HasEither, AreInLimit}
+use Rattle.gw_log.specs.State.{Stands, records_of}
 use Rattle.gw_log.specs.Chain.{Head, spelled, AreSome, IsEnded, AreBefore, none, more, IsUnborn, Origin, IsLast, IsLog, LogState, Holds, IsEither}
-use Rattle.gw_log.proofs.Crash.{has_shut}
-use Rattle.gw_log.proofs.Sound.{or_either, either_old}
-use Rattle.gw_log.proofs.Ends.{short-append}
+use Rattle.gw_log.proofs.Batches.{has_unsynced}
+use Rattle.gw_log.proofs.Sound.{has_stands}
 
 pub some-append : (old new : List (List ℕ)) → AreSome old → AreSome new → AreSome (old ++ new)
 some-append [] new some fresh = fresh
@@ -35,10 +33,10 @@ before_same id files c last n f b _ same (more _ _ _ h these those follows is re
 
 -- a file without a byte is unborn
 pub no_file : (file : List ℕ) → file ≡ [] → IsUnborn file
-no_file file is = record { records = []; has = record { end = []; whole = is; short = tt; unsynced = tt }; at_most = omega arith }
+no_file file is = record { records = []; has = has_unsynced [] [] file tt tt is; at_most = omega arith }
 
-module _ {D : Type 0} (seen : D → Files) (may_leave : D → Files → Type 0) (s : LogState D) (from : Origin) (head : Head) (records pending : List (List ℕ))
-    (h : Holds seen may_leave s from head records pending) where
+module _ {D : Type 0} (seen : D → Files) (may_leave : D → Files → Type 0) (s : LogState D) (from : Origin) (head : Head) (records : List (List ℕ))
+    (h : Holds seen may_leave s from head records) where
   abbrev files : Files
   files = seen s.segment.disk
 
@@ -63,17 +61,19 @@ module _ {D : Type 0} (seen : D → Files) (may_leave : D → Files → Type 0) 
   -- nothing has changed
   pub log_as_is : (c : Files) → ((m : ℕ) → c m ≡ files m) → IsLog s.id c from head records
   log_as_is c same =
-      let st = h.stands.staged in
-      let last : c head.number ≡ staged (spelled head ∷ h.these) pending = same head.number ∙ ap (λ (k : ℕ). files k) h.number ∙ st.file in
       subst (λ l. IsLog s.id c from head l) (sym h.all) (log_with c h.these
-      (record { wide = h.wide; some = h.some; has = has_shut (spelled head ∷ h.these) 0 (drop 1 (at_rest pending)) (c head.number) (omega arith) st.short last })
+      (record {
+        wide = h.wide;
+        some = h.some;
+        has = has_stands seen may_leave s.segment (spelled head ∷ h.these) h.stands (c head.number) (same head.number ∙ ap (λ (k : ℕ). files k) h.number);
+      })
       (λ m lt. same m) (no_file (c (head.number + 1)) (same (head.number + 1) ∙ h.none_above (head.number + 1) (omega arith)))
       (λ m lt. same m ∙ h.none_above m (omega (arith, lt))))
 
   -- what a crash leaves where the last file alone is in motion
-  pub either_of : (c : Files) (P : List ℕ → Type 0) → ((f : List ℕ) → P f → HasEither (spelled head ∷ h.these) ((spelled head ∷ h.these) ++ pending) f)
-      → Changes s.segment.number P files c → IsEither s.id from head records (records ++ pending) c
-  either_of c P has changes = by (has (c s.segment.number) changes.here)
+  pub either_of : (batch : List (List ℕ)) → AreSome batch → (c : Files)
+      → Changes s.segment.number (HasEither (spelled head ∷ h.these) ((spelled head ∷ h.these) ++ batch)) files c → IsEither s.id from head records (records ++ batch) c
+  either_of batch fresh c changes = by changes.here
     where
       number : s.segment.number ≡ head.number
       number = sym h.number
@@ -85,51 +85,38 @@ module _ {D : Type 0} (seen : D → Files) (may_leave : D → Files → Type 0) 
           (no_file (c (head.number + 1)) (changes.others (head.number + 1) (λ is. omega (arith, is, number)) ∙ h.none_above (head.number + 1) (omega arith)))
           (λ m lt. changes.others m (λ is. omega (arith, is, number, lt)) ∙ h.none_above m (omega (arith, lt)))
 
-      by : HasEither (spelled head ∷ h.these) ((spelled head ∷ h.these) ++ pending) (c s.segment.number) → IsEither s.id from head records (records ++ pending) c
+      by : HasEither (spelled head ∷ h.these) ((spelled head ∷ h.these) ++ batch) (c s.segment.number) → IsEither s.id from head records (records ++ batch) c
       by (inl old) = inl (subst (λ l. IsLog s.id c from head l) (sym h.all) (log h.these h.some old))
       by (inr new) =
-          inr (subst (λ l. IsLog s.id c from head l) (sym (append_assoc h.front h.these pending) ∙ ap (λ (l : List (List ℕ)). l ++ pending) (sym h.all))
-          (log (h.these ++ pending) (some-append h.these pending h.some h.fresh) new))
+          inr (subst (λ l. IsLog s.id c from head l) (sym (append_assoc h.front h.these batch) ∙ ap (λ (l : List (List ℕ)). l ++ batch) (sym h.all))
+          (log (h.these ++ batch) (some-append h.these batch h.some fresh) new))
 
-  pub either_settled : (c : Files) → Changes s.segment.number (HasOrIs (spelled head ∷ h.these) ((spelled head ∷ h.these) ++ pending)) files c
-      → IsEither s.id from head records (records ++ pending) c
-  either_settled c changes =
-      let st = h.stands.staged in
-      either_of c (HasOrIs (spelled head ∷ h.these) ((spelled head ∷ h.these) ++ pending))
-      (λ f has. or_either (spelled head ∷ h.these) ((spelled head ∷ h.these) ++ pending) f (short-append (spelled head ∷ h.these) pending st.short st.fits) has) changes
+  pub either_so : (batch : List (List ℕ)) (c : Files) → may_leave s.segment.disk c → IsEither s.id from head records (records ++ batch) c
+  either_so batch c may = inl (log_as_is c (h.stands.staged.durable c may))
 
-  pub either_so : (c : Files) → may_leave s.segment.disk c → IsEither s.id from head records (records ++ pending) c
-  either_so c may =
-      either_of c (HasEither (spelled head ∷ h.these) ((spelled head ∷ h.these) ++ pending)) (λ f has. has)
-      (either_old seen may_leave s.segment.disk s.segment.number s.segment.end s.segment.reach (spelled head ∷ h.these) pending h.stands.staged c may)
-
-  -- the log holds what was pending too
-  pub holds_more : (t : LogState D) (batch : List (List ℕ)) → Stands seen may_leave t.segment ((spelled head ∷ h.these) ++ pending) batch → AreSome batch
+  -- the log holds a batch more
+  pub holds_more : (t : LogState D) (batch : List (List ℕ)) → Stands seen may_leave t.segment ((spelled head ∷ h.these) ++ batch) → AreSome batch
       → t.segment.number ≡ s.segment.number → ((m : ℕ) → m ≢ s.segment.number → seen t.segment.disk m ≡ files m) → t.id ≡ s.id → t.first ≡ s.first
-      → t.count ≡ s.count + length batch → t.oldest ≡ s.oldest → t.least ≡ s.least → Holds seen may_leave t from head (records ++ pending) batch
-  holds_more t batch stands some number same id first count oldest least = record {
+      → t.count ≡ s.count + length batch → t.keep ≡ s.keep → t.least ≡ s.least → Holds seen may_leave t from head (records ++ batch)
+  holds_more t batch stands fresh number same id first count keep least = record {
     front = h.front;
-    these = h.these ++ pending;
+    these = h.these ++ batch;
     ended = subst (λ n. AreBefore n (seen t.segment.disk) head from.number from.first from.before h.front) (sym id)
         (before_same s.id files (seen t.segment.disk) head from.number from.first from.before h.front
         (λ m lt. same m (λ is. omega (arith, is, h.number, lt))) h.ended);
     wide = h.wide;
-    some = some-append h.these pending h.some h.fresh;
-    fresh = some;
+    some = some-append h.these batch h.some fresh;
     stands = stands;
     number = h.number ∙ sym number;
-    all = ap (λ (l : List (List ℕ)). l ++ pending) h.all ∙ append_assoc h.front h.these pending;
+    all = ap (λ (l : List (List ℕ)). l ++ batch) h.all ∙ append_assoc h.front h.these batch;
     there = h.there;
     none_below = λ m lt. same m (λ is. omega (arith, is, h.number, lt, from_le)) ∙ h.none_below m lt;
     none_above = λ m lt. same m (λ is. omega (arith, is, h.number, lt)) ∙ h.none_above m lt;
     first = h.first ∙ sym first;
-    count = count ∙ counted;
-    oldest = h.oldest ∙ sym oldest;
+    count = omega (arith, count, h.count, length-append h.these batch);
+    keep = h.keep ∙ sym keep;
     least = h.least ∙ sym least;
   }
-    where
-      counted : s.count + length batch ≡ length (h.these ++ pending) + length batch
-      counted = omega (arith, h.count, length-append h.these pending)
 
 -- ---- records in memory
 

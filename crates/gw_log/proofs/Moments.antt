@@ -1,7 +1,7 @@
 -- How a run of calls of a disk goes on.
-use Rattle.std.proofs.Common.{◌≡◌, ◌≢◌, inl, inr, ⊎_elim, ℕ, sym, ◌∙◌, subst, arith}
+use Rattle.std.proofs.Common.{◌≡◌, ◌≢◌, inl, inr, ⊎_elim, ℕ, List, [], ◌∷◌, drop, refl, sym, ◌∙◌, subst, arith}
 use Rattle.std.proofs.lemmas.Bool.{cases_eq}
-use Rattle.gw_log.specs.Disk.{Files, Only, Elapses, LeavesOnly}
+use Rattle.gw_log.specs.Disk.{Files, IsMixed, Torn, After, Only, Elapses, LeavesOnly}
 
 module _ {D : Type 0} (moment : D → ℕ) (left_since : D → ℕ → Files → Type 0) where
   -- what has P has Q
@@ -41,6 +41,19 @@ only_of number old now outcomes stay same synced c could m = elim (cases_eq m nu
   | inl is ↦ subst (λ k. c k ≡ now k) (sym is) (synced c could)
   | inr differs ↦ stay c could m differs ∙ sym (same m differs)
 ]
+
+-- a write that did not happen
+mixed_none : (old bytes : List ℕ) → IsMixed old bytes old
+mixed_none old [] = refl
+mixed_none [] (byte ∷ bytes) = tt
+mixed_none (o ∷ old) (byte ∷ bytes) = (inl refl, mixed_none old bytes)
+
+pub torn_none : (number at : ℕ) (bytes : List ℕ) (outcomes : Files → Type 0) (c : Files) → outcomes c → After number (Torn at bytes) outcomes c
+torn_none number at bytes outcomes c could = record {
+  was = c;
+  could = could;
+  moves = record { here = record { before = refl; mixed = mixed_none (drop at (c number)) bytes }; others = λ m differs. refl };
+}
 
 -- no call at all
 pub stood : {D : Type 0} (moment : D → ℕ) (left_since : D → ℕ → Files → Type 0) (may_leave : D → Files → Type 0) (disk : D) (P : Files → Type 0)

@@ -7,8 +7,8 @@ use Rattle.gw_log.specs.Disk.{Files, AreEnds}
 use Rattle.gw_log.specs.File.{Has}
 use Rattle.gw_log.specs.State.{Stands}
 use Rattle.gw_log.specs.Chain.{Head, spelled, IsWide, IsEnded, ended, AreBefore, none, more, Origin, IsLast, IsLog, LogState, Holds, HasHead, first_head, beginning}
-use Rattle.gw_log.proofs.Crash.{has_shut}
-use Rattle.gw_log.proofs.Ways.{fronts, one_way}
+use Rattle.gw_log.proofs.Batches.{has_lone}
+use Rattle.gw_log.proofs.Ways.{fronts, one_way, first_there}
 
 -- ---- a file has one head
 
@@ -22,24 +22,24 @@ first_same : (a b : List ℕ) (xs ys : List (List ℕ)) → a ∷ xs ≡ b ∷ y
 first_same a b xs ys same = cc (same)
 
 -- and so is each of its numbers
-pub same_numbers : (g h : Head) → IsWide g → IsWide h → spelled g ≡ spelled h → (g.number ≡ h.number) × (g.first ≡ h.first) × (g.before ≡ h.before) × (g.oldest ≡ h.oldest) × (g.id ≡ h.id)
+pub same_numbers : (g h : Head) → IsWide g → IsWide h → spelled g ≡ spelled h → (g.number ≡ h.number) × (g.first ≡ h.first) × (g.before ≡ h.before) × (g.keep ≡ h.keep) × (g.id ≡ h.id)
 same_numbers g h wide fits same =
     let s1 = split g.number h.number _ _ same in
     let s2 = split g.first h.first _ _ s1.1 in
     let s3 = split g.before h.before _ _ s2.1 in
-    let s4 = split g.oldest h.oldest _ _ s3.1 in
+    let s4 = split g.keep h.keep _ _ s3.1 in
     let s5 = split g.id h.id _ _ s4.1 in (
       one_number g.number h.number wide.its_number fits.its_number s1.0,
       one_number g.first h.first wide.its_first fits.its_first s2.0,
       one_number g.before h.before wide.its_before fits.its_before s3.0,
-      one_number g.oldest h.oldest wide.its_oldest fits.its_oldest s4.0,
+      one_number g.keep h.keep wide.its_keep fits.its_keep s4.0,
       one_number g.id h.id wide.its_id fits.its_id s5.0,
     )
 
 -- a head is its numbers and its checkpoint
-abbrev pub head_from : (number first before oldest id : ℕ) → List ℕ → Head
-head_from number first before oldest id checkpoint =
-    record { number = number; first = first; before = before; oldest = oldest; id = id; checkpoint = checkpoint }
+abbrev pub head_from : (number first before keep id : ℕ) → List ℕ → Head
+head_from number first before keep id checkpoint =
+    record { number = number; first = first; before = before; keep = keep; id = id; checkpoint = checkpoint }
 
 pub same_heads : (g h : Head) → IsWide g → IsWide h → spelled g ≡ spelled h → g ≡ h
 same_heads g h wide fits same =
@@ -47,14 +47,14 @@ same_heads g h wide fits same =
     let s1 = split g.number h.number _ _ same in
     let s2 = split g.first h.first _ _ s1.1 in
     let s3 = split g.before h.before _ _ s2.1 in
-    let s4 = split g.oldest h.oldest _ _ s3.1 in
+    let s4 = split g.keep h.keep _ _ s3.1 in
     let s5 = split g.id h.id _ _ s4.1 in
-    ap (λ (n : ℕ). head_from n g.first g.before g.oldest g.id g.checkpoint) are.0
-    ∙ ap (λ (n : ℕ). head_from h.number n g.before g.oldest g.id g.checkpoint) are.1
-    ∙ ap (λ (n : ℕ). head_from h.number h.first n g.oldest g.id g.checkpoint) are.2
+    ap (λ (n : ℕ). head_from n g.first g.before g.keep g.id g.checkpoint) are.0
+    ∙ ap (λ (n : ℕ). head_from h.number n g.before g.keep g.id g.checkpoint) are.1
+    ∙ ap (λ (n : ℕ). head_from h.number h.first n g.keep g.id g.checkpoint) are.2
     ∙ ap (λ (n : ℕ). head_from h.number h.first h.before n g.id g.checkpoint) are.3
-    ∙ ap (λ (n : ℕ). head_from h.number h.first h.before h.oldest n g.checkpoint) are.4
-    ∙ ap (λ (l : List ℕ). head_from h.number h.first h.before h.oldest h.id l) s5.1
+    ∙ ap (λ (n : ℕ). head_from h.number h.first h.before h.keep n g.checkpoint) are.4
+    ∙ ap (λ (l : List ℕ). head_from h.number h.first h.before h.keep h.id l) s5.1
 
 pub one_headed : (id other n m b c : ℕ) (file : List ℕ) → HasHead id n b file → HasHead other m c file → (id ≡ other) × (n ≡ m) × (b ≡ c)
 one_headed id other n m b c file these those =
@@ -64,7 +64,7 @@ one_headed id other n m b c file these those =
     let s1 = split g.number h.number _ _ same in
     let s2 = split g.first h.first _ _ s1.1 in
     let s3 = split g.before h.before _ _ s2.1 in
-    let s4 = split g.oldest h.oldest _ _ s3.1 in
+    let s4 = split g.keep h.keep _ _ s3.1 in
     let s5 = split g.id h.id _ _ s4.1 in (
       sym these.its_id ∙ one_number g.id h.id these.wide.its_id those.wide.its_id s5.0 ∙ those.its_id,
       sym these.its_number ∙ one_number g.number h.number these.wide.its_number those.wide.its_number s1.0 ∙ those.its_number,
@@ -74,7 +74,7 @@ one_headed id other n m b c file these those =
 -- ---- each in its place
 
 pub has_ended : (h : Head) (records : List (List ℕ)) (file : List ℕ) → IsEnded h records file → Has (ended h records) file
-has_ended h records file is = has_shut (ended h records) 0 [] file (omega arith) is.short is.whole
+has_ended h records file is = has_lone (ended h records) 0 file is.short is.whole
 
 first_place : (id : ℕ) (files : Files) (last : Head) (these : List (List ℕ)) (n f b : ℕ) (records : List (List ℕ)) → IsLast last these (files last.number)
     → AreBefore id files last n f b records → HasHead id n b (files n)
@@ -115,7 +115,7 @@ next_of id files from head records is = next_place id files head is.these from.n
 
 -- a file with a head has a byte
 not_none : (id n b : ℕ) (file : List ℕ) → HasHead id n b file → file ≡ [] → ⊥
-not_none id n b file head is = omega (arith, ap length (sym is ∙ head.has.whole))
+not_none id n b file head is = omega (arith, ap length (sym is ∙ (first_there (spelled head.head) head.records file head.has).whole))
 
 -- each file from the first to the last has a byte
 pub some_there : (id : ℕ) (files : Files) (from : Origin) (head : Head) (records : List (List ℕ)) (is : IsLog id files from head records) (n : ℕ) → from.number ≤ n → n ≤ head.number
@@ -151,18 +151,17 @@ pub none_within : (first last : ℕ) (files : Files) → last < first → AreEnd
 none_within first last files lt are n = listless (files n) (λ some. let ends = are.within n some in omega (arith, ends.0, ends.1, lt))
 
 pub created : {D : Type 0} (seen : D → Files) (may_leave : D → Files → Type 0) (t : LogState D) (base : Files) (id : ℕ) (checkpoint : List ℕ) (batch : List (List ℕ))
-    → batch ≡ spelled (first_head id checkpoint) ∷ [] → IsWide (first_head id checkpoint) → Stands seen may_leave t.segment batch [] → t.segment.number ≡ 1
-    → ((m : ℕ) → base m ≡ []) → ((m : ℕ) → m ≢ 1 → seen t.segment.disk m ≡ base m) → t.id ≡ id → t.first ≡ 0 → t.count ≡ 0 → t.oldest ≡ 1 → t.least ≡ 1
-    → Holds seen may_leave t beginning (first_head id checkpoint) [] []
-created seen may_leave t base id checkpoint batch is wide stands number nothing same id_is first count oldest least = record {
+    → batch ≡ spelled (first_head id checkpoint) ∷ [] → IsWide (first_head id checkpoint) → Stands seen may_leave t.segment batch → t.segment.number ≡ 1
+    → ((m : ℕ) → base m ≡ []) → ((m : ℕ) → m ≢ 1 → seen t.segment.disk m ≡ base m) → t.id ≡ id → t.first ≡ 0 → t.count ≡ 0 → t.keep ≡ 0 → t.least ≡ 1
+    → Holds seen may_leave t beginning (first_head id checkpoint) []
+created seen may_leave t base id checkpoint batch is wide stands number nothing same id_is first count keep least = record {
   front = [];
   these = [];
   ended = subst (λ k. AreBefore k (seen t.segment.disk) (first_head id checkpoint) 1 0 0 []) (sym id_is)
       (none 1 0 0 (record { its_id = refl; its_number = refl; its_first = refl; its_before = refl }));
   wide = wide;
   some = tt;
-  fresh = tt;
-  stands = subst (λ l. Stands seen may_leave t.segment l []) is stands;
+  stands = subst (Stands seen may_leave t.segment) is stands;
   number = sym number;
   all = refl;
   there = omega arith;
@@ -170,6 +169,6 @@ created seen may_leave t base id checkpoint batch is wide stands number nothing 
   none_above = λ m lt. same m (λ is. omega (arith, is, lt)) ∙ nothing m;
   first = sym first;
   count = count;
-  oldest = sym oldest;
+  keep = sym keep;
   least = sym least;
 }

@@ -4,74 +4,52 @@ use Rattle.std.proofs.lemmas.List.{append-nil}
 use Rattle.sha2.specs.Sha256.{sha256}
 use Rattle.sha2.proofs.Facts256.{length-sha256}
 use Rattle.gw_log.specs.Disk.{Files, Changes, Only, LeavesOnly}
-use Rattle.gw_log.specs.File.{item, body, blocks, AreShort, Has, HasEither, HasOrIs}
-use Rattle.gw_log.specs.State.{staged, IsStaged, Stands, SegmentState}
-use Rattle.gw_log.specs.Chain.{Head, spelled, IsWide, IsEnded, Follows, AreBefore, none, more, IsUnborn, Origin, IsLog, LogState, Holds, IsEither, IsEitherOrNext, LeavesGoing, next_head}
+use Rattle.gw_log.specs.File.{item, body, blocks, batch, AreShort, Has, HasEither, HasOrIs}
+use Rattle.gw_log.specs.State.{at_rest, IsStaged, Stands, SegmentState}
+use Rattle.gw_log.specs.Chain.{Head, spelled, IsWide, IsEnded, Follows, AreBefore, none, more, IsUnborn, Origin, IsLog, LogState, Holds, LeavesGoing, next_head}
 use Rattle.gw_log.specs.own.Turns.{Turns, IsNext, HasTurned}
-use Rattle.gw_log.proofs.Crash.{has_shut}
+use Rattle.gw_log.specs.own.Steps.{HasAdded, IsAtRest}
+use Rattle.gw_log.proofs.Crash.{new_end}
+use Rattle.gw_log.proofs.Batches.{has_unsynced}
+use Rattle.gw_log.proofs.Sound.{ends_old}
+use Rattle.gw_log.proofs.Places.{block_size}
 use Rattle.gw_log.proofs.Ends.{short-append, blocks-append}
 use Rattle.gw_log.proofs.Logs.{before_same, no_file, log_with, from_le}
 use Rattle.gw_log.proofs.Placing.{head_from}
 
-empty_short : length (item []) < 2 ^ 32
+pub empty_short : length (item []) < 2 ^ 32
 empty_short = omega (arith, length-append (sha256 []) [], length-sha256 [])
 
 -- ---- the two files
 
 -- the next file is being begun
-pub begins : (number : ℕ) (these next : List (List ℕ)) (old c : Files) → AreShort these → old number ≡ staged these []
+pub begins : (number : ℕ) (these next : List (List ℕ)) (old c : Files) → Has these (old number)
     → Changes (number + 1) (HasEither [] next) old c → Turns number these next old c
-begins number these next old c short file changes = record {
+begins number these next old c has changes = record {
   others = λ m one two. changes.others m two;
-  either = inl (has_shut these 0 [] (c number) (omega arith) short (changes.others number (λ is. omega (arith, is)) ∙ file), changes.here);
+  either = inl (subst (Has these) (sym (changes.others number (λ is. omega (arith, is)))) has, changes.here);
 }
 
-module _ (number : ℕ) (these next : List (List ℕ)) (old mid : Files) (fits : AreShort next) (begun : mid (number + 1) ≡ staged next [])
-    (same : (m : ℕ) → m ≢ number + 1 → mid m ≡ old m) where
-  next_is : (m c : Files) → m (number + 1) ≡ mid (number + 1) → ((k : ℕ) → k ≢ number → c k ≡ m k) → c (number + 1) ≡ blocks next ++ 0 ∷ []
-  next_is m c there others = others (number + 1) (λ is. omega (arith, is)) ∙ there ∙ begun
-
-  next_has : (file : List ℕ) → file ≡ blocks next ++ 0 ∷ [] → HasEither [] next file
-  next_has file is = inr (has_shut next 0 [] file (omega arith) fits is)
-
+module _ (number : ℕ) (these next : List (List ℕ)) (old mid : Files) (begun : Has next (mid (number + 1))) (same : (m : ℕ) → m ≢ number + 1 → mid m ≡ old m) where
   -- the end is being written
-  pub ends : (c : Files) → Changes number (HasEither these (these ++ [])) mid c → Turns number these next old c
+  pub ends : (c : Files) → Changes number (HasAdded 0 these ([] ∷ [])) mid c → Turns number these next old c
   ends c changes = record {
     others = λ m one two. changes.others m one ∙ same m two;
-    either = inl (has changes.here, next_has (c (number + 1)) (next_is mid c refl changes.others));
+    either = inl (ends_old these ([] ∷ []) (c number) changes.here, inr (subst (Has next) (sym (changes.others (number + 1) (λ is. omega (arith, is)))) begun));
   }
-    where
-      has : HasEither these (these ++ []) (c number) → Has these (c number)
-      has (inl h) = h
-      has (inr h) = subst (λ l. Has l (c number)) (append-nil these) h
 
   -- it is being brought to the disk
   pub closes : (last c : Files) → ((m : ℕ) → m ≢ number → last m ≡ mid m) → Changes number (HasOrIs these (these ++ [] ∷ [])) last c → Turns number these next old c
   closes last c others changes =
-      let there = next_is last c (others (number + 1) (λ is. omega (arith, is))) changes.others in
       record {
         others = λ m one two. changes.others m one ∙ others m one ∙ same m two;
-        either = by there changes.here;
+        either = by (subst (Has next) (sym (changes.others (number + 1) (λ is. omega (arith, is)) ∙ others (number + 1) (λ is. omega (arith, is)))) begun) changes.here;
       }
     where
-      by : c (number + 1) ≡ blocks next ++ 0 ∷ [] → HasOrIs these (these ++ [] ∷ []) (c number)
-          → (Has these (c number) × HasEither [] next (c (number + 1)))
-          ⊎ ((c number ≡ blocks (these ++ [] ∷ []) ++ 0 ∷ []) × (c (number + 1) ≡ blocks next ++ 0 ∷ []) × AreShort next)
-      by there (inl h) = inl (h, next_has (c (number + 1)) there)
-      by there (inr is) = inr (is, there, fits)
-
--- the segment is at its next file
-pub at_next : {D : Type 0} (seen : D → Files) (may_leave : D → Files → Type 0) (begun disk : D) (number size : ℕ) (next : List (List ℕ))
-    → IsStaged seen may_leave begun number size size next [] → seen disk number ≡ seen begun number → Only (seen disk) (may_leave disk)
-    → IsStaged seen may_leave disk number size size next []
-at_next seen may_leave begun disk number size next st same only = record {
-  file = same ∙ st.file;
-  short = st.short;
-  fits = tt;
-  ends = st.ends;
-  reaches = st.reaches;
-  durable = only;
-}
+      by : Has next (c (number + 1)) → HasOrIs these (these ++ [] ∷ []) (c number)
+          → (Has these (c number) × HasEither [] next (c (number + 1))) ⊎ ((c number ≡ at_rest (these ++ [] ∷ [])) × Has next (c (number + 1)))
+      by there (inl h) = inl (h, inr there)
+      by there (inr is) = inr (is, there)
 
 -- ---- the log
 
@@ -93,10 +71,10 @@ snoc id files last next n f b _ these (more _ _ _ h some those fol ended rest) i
     (more n f b h some (those ++ these) fol ended (snoc id files last next (n + 1) (f + length some) (length (files n)) those these rest is follows))
 
 module _ {D : Type 0} (seen : D → Files) (may_leave : D → Files → Type 0) (s : LogState D) (from : Origin) (head : Head) (records : List (List ℕ))
-    (h : Holds seen may_leave s from head records []) (oldest : ℕ) (checkpoint : List ℕ) (batch : List (List ℕ)) (next : IsNext s oldest checkpoint batch)
-    (le : s.oldest ≤ oldest) where
+    (h : Holds seen may_leave s from head records) (keep : ℕ) (checkpoint : List ℕ) (batch : List (List ℕ)) (next : IsNext s keep checkpoint batch)
+    (le : s.keep ≤ keep) where
   abbrev behind : Head
-  behind = next_head s oldest checkpoint
+  behind = next_head s keep checkpoint
 
   abbrev old : Files
   old = seen s.segment.disk
@@ -104,10 +82,13 @@ module _ {D : Type 0} (seen : D → Files) (may_leave : D → Files → Type 0) 
   abbrev mine : List (List ℕ)
   mine = spelled head ∷ h.these
 
-  end_is : (file : List ℕ) → file ≡ blocks (mine ++ [] ∷ []) ++ 0 ∷ [] → length file ≡ s.segment.reach + 38
+  end_is : (file : List ℕ) → file ≡ at_rest (mine ++ [] ∷ []) → length file ≡ s.segment.reach + 46
   end_is file is =
       let st = h.stands.staged in
-      let one : length (blocks ([] ∷ [])) ≡ 37 = omega (arith, length-append (body []) [], length-append (sha256 []) [], length-sha256 []) in
+      let one : length (blocks ([] ∷ [])) ≡ 45 = omega (arith, length-append (body []) [], block_size []) in
+      let all : length (blocks mine) ≡ s.segment.reach =
+      ap (λ (l : List (List ℕ)). length (blocks l)) h.stands.all
+      ∙ sym (new_end st.gate 2 h.stands.these h.stands.last s.segment.end s.segment.reach st.ends st.reaches) in
       omega (
         arith,
         ap length is,
@@ -115,19 +96,21 @@ module _ {D : Type 0} (seen : D → Files) (may_leave : D → Files → Type 0) 
         ap length (blocks-append mine ([] ∷ [])),
         length-append (blocks mine) (blocks ([] ∷ [])),
         one,
-        st.ends,
-        st.reaches,
+        all,
       )
 
-  ended_so : (c : Files) → c s.segment.number ≡ blocks (mine ++ [] ∷ []) ++ 0 ∷ [] → IsEnded head h.these (c head.number)
+  short_mine : AreShort mine
+  short_mine = subst AreShort (sym h.stands.all) (short-append h.stands.these h.stands.last h.stands.staged.short h.stands.staged.fits)
+
+  ended_so : (c : Files) → c s.segment.number ≡ at_rest (mine ++ [] ∷ []) → IsEnded head h.these (c head.number)
   ended_so c is = record {
     wide = h.wide;
     some = h.some;
-    short = short-append mine ([] ∷ []) h.stands.staged.short (empty_short, tt);
+    short = short-append mine ([] ∷ []) short_mine (empty_short, tt);
     whole = ap (λ (k : ℕ). c k) h.number ∙ is;
   }
 
-  follows_so : (c : Files) → c s.segment.number ≡ blocks (mine ++ [] ∷ []) ++ 0 ∷ []
+  follows_so : (c : Files) → c s.segment.number ≡ at_rest (mine ++ [] ∷ [])
       → Follows s.id (head.number + 1) (head.first + length h.these) (length (c head.number)) behind
   follows_so c is = record {
     its_id = refl;
@@ -136,14 +119,11 @@ module _ {D : Type 0} (seen : D → Files) (may_leave : D → Files → Type 0) 
     its_before = sym (end_is (c head.number) (ap (λ (k : ℕ). c k) h.number ∙ is));
   }
 
-  all_before : (c : Files) → ((m : ℕ) → m < head.number → c m ≡ old m) → c s.segment.number ≡ blocks (mine ++ [] ∷ []) ++ 0 ∷ []
+  all_before : (c : Files) → ((m : ℕ) → m < head.number → c m ≡ old m) → c s.segment.number ≡ at_rest (mine ++ [] ∷ [])
       → AreBefore s.id c behind from.number from.first from.before (h.front ++ h.these)
   all_before c same is =
       snoc s.id c head behind from.number from.first from.before h.front h.these
       (before_same s.id old c head from.number from.first from.before h.front same h.ended) (ended_so c is) (follows_so c is)
-
-  short_batch : AreShort batch → AreShort (spelled behind ∷ [])
-  short_batch fits = subst AreShort next.batch_is fits
 
   number_is : head.number + 1 ≡ s.segment.number + 1
   number_is = ap (λ (k : ℕ). k + 1) h.number
@@ -162,36 +142,35 @@ module _ {D : Type 0} (seen : D → Files) (may_leave : D → Files → Type 0) 
       unborn file (inl has) = record { records = []; has = has; at_most = omega arith }
       unborn file (inr has) = record { records = batch; has = has; at_most = omega (arith, ap length next.batch_is) }
 
-      there : from.number ≤ behind.oldest
-      there = omega (arith, h.there, h.oldest, le)
+      there : from.first ≤ behind.keep
+      there = omega (arith, h.there, h.keep, le)
 
       by : (Has mine (c s.segment.number) × HasEither [] batch (c (s.segment.number + 1)))
-          ⊎ ((c s.segment.number ≡ blocks (mine ++ [] ∷ []) ++ 0 ∷ []) × (c (s.segment.number + 1) ≡ blocks batch ++ 0 ∷ []) × AreShort batch) → IsLog s.id c from head records ⊎ IsLog s.id c from behind records
+          ⊎ ((c s.segment.number ≡ at_rest (mine ++ [] ∷ [])) × Has batch (c (s.segment.number + 1))) → IsLog s.id c from head records ⊎ IsLog s.id c from behind records
       by (inl first) = inl (
-          subst (λ l. IsLog s.id c from head l) (sym h.all) (log_with seen may_leave s from head records [] h c h.these
+          subst (λ l. IsLog s.id c from head l) (sym h.all) (log_with seen may_leave s from head records h c h.these
           (record { wide = h.wide; some = h.some; has = subst (λ n. Has mine (c n)) (sym h.number) first.0 }) below
           (subst (λ n. IsUnborn (c n)) (sym number_is) (unborn (c (s.segment.number + 1)) first.1)) above))
       by (inr second) =
           let number : behind.number ≡ head.number + 1 = omega (arith, h.number) in
-          let file : c behind.number ≡ blocks (spelled behind ∷ []) ++ 0 ∷ [] =
-          second.1 ∙ ap (λ (l : List (List ℕ)). blocks l ++ 0 ∷ []) next.batch_is in
+          let file : Has (spelled behind ∷ []) (c behind.number) = subst (λ l. Has l (c (s.segment.number + 1))) next.batch_is second.1 in
           inr (record {
             front = h.front ++ h.these;
             these = [];
             ended = all_before c below second.0;
-            last = record { wide = next.wide; some = tt; has = has_shut (spelled behind ∷ []) 0 [] (c behind.number) (omega arith) (short_batch second.2) file };
+            last = record { wide = next.wide; some = tt; has = file };
             all = h.all ∙ sym (append-nil (h.front ++ h.these));
             there = there;
-            none_below = λ m lt. below m (omega (arith, lt, from_le seen may_leave s from head records [] h)) ∙ h.none_below m lt;
+            none_below = λ m lt. below m (omega (arith, lt, from_le seen may_leave s from head records h)) ∙ h.none_below m lt;
             unborn = no_file (c (behind.number + 1)) (above (behind.number + 1) (omega (arith, number)));
             none_above = λ m lt. above m (omega (arith, lt, number));
           })
 
   -- and then the log holds the same, with the next head
-  pub holds_then : (t : LogState D) → Stands seen may_leave t.segment batch [] → t.segment.number ≡ s.segment.number + 1
-      → seen t.segment.disk s.segment.number ≡ blocks (mine ++ [] ∷ []) ++ 0 ∷ []
+  pub holds_then : (t : LogState D) → Stands seen may_leave t.segment batch → t.segment.number ≡ s.segment.number + 1
+      → seen t.segment.disk s.segment.number ≡ at_rest (mine ++ [] ∷ [])
       → ((m : ℕ) → m ≢ s.segment.number → m ≢ s.segment.number + 1 → seen t.segment.disk m ≡ old m) → t.id ≡ s.id → t.first ≡ s.first + s.count → t.count ≡ 0
-      → t.oldest ≡ oldest → t.least ≡ s.least → Holds seen may_leave t from behind records []
+      → t.keep ≡ keep → t.least ≡ s.least → Holds seen may_leave t from behind records
   holds_then t stands number file same id first count old_is least =
       let c = seen t.segment.disk in
       let below : (m : ℕ) → m < head.number → c m ≡ old m = λ m lt. same m (λ is. omega (arith, is, h.number, lt)) (λ is. omega (arith, is, h.number, lt)) in
@@ -201,25 +180,26 @@ module _ {D : Type 0} (seen : D → Files) (may_leave : D → Files → Type 0) 
         ended = subst (λ k. AreBefore k c behind from.number from.first from.before (h.front ++ h.these)) (sym id) (all_before c below file);
         wide = next.wide;
         some = tt;
-        fresh = tt;
-        stands = subst (λ l. Stands seen may_leave t.segment l []) next.batch_is stands;
+        stands = subst (Stands seen may_leave t.segment) next.batch_is stands;
         number = sym number;
         all = h.all ∙ sym (append-nil (h.front ++ h.these));
-        there = omega (arith, h.there, h.oldest, le);
-        none_below = λ m lt. below m (omega (arith, lt, from_le seen may_leave s from head records [] h)) ∙ h.none_below m lt;
+        there = omega (arith, h.there, h.keep, le);
+        none_below = λ m lt. below m (omega (arith, lt, from_le seen may_leave s from head records h)) ∙ h.none_below m lt;
         none_above = λ m lt. same m (λ is. omega (arith, is, lt)) (λ is. omega (arith, is, lt)) ∙ h.none_above m (omega (arith, lt, h.number));
         first = sym first;
         count = count;
-        oldest = sym old_is;
+        keep = sym old_is;
         least = h.least ∙ sym least;
       }
 
 -- ---- the two files of a segment
 
-pub moved_staged : {D : Type 0} (seen : D → Files) (may_leave : D → Files → Type 0) (old new : D) (number end reach : ℕ) (these pending : List (List ℕ))
-    → IsStaged seen may_leave old number end reach these pending → seen new number ≡ seen old number → Only (seen new) (may_leave new)
-    → IsStaged seen may_leave new number end reach these pending
-moved_staged seen may_leave was new number end reach these pending st same only = record {
+pub moved_staged : {D : Type 0} (seen : D → Files) (may_leave : D → Files → Type 0) (old new : D) (number end reach : ℕ) (these last : List (List ℕ))
+    → IsStaged seen may_leave 2 old number end reach these last → seen new number ≡ seen old number → Only (seen new) (may_leave new)
+    → IsStaged seen may_leave 2 new number end reach these last
+moved_staged seen may_leave was new number end reach these last st same only = record {
+  gate = st.gate;
+  shut = st.shut;
   file = same ∙ st.file;
   short = st.short;
   fits = st.fits;
@@ -231,59 +211,64 @@ moved_staged seen may_leave was new number end reach these pending st same only 
 pub apart : (n : ℕ) → n ≢ n + 1
 apart n is = omega (arith, is)
 
-pub with_end : {D : Type 0} (seen : D → Files) (may_leave : D → Files → Type 0) (s : SegmentState D) (these end : List (List ℕ)) → end ≡ [] ∷ []
-    → Stands seen may_leave s (these ++ []) end → Stands seen may_leave s these ([] ∷ [])
-with_end seen may_leave s these end is st =
-    subst (λ l. Stands seen may_leave s l ([] ∷ [])) (append-nil these) (subst (λ l. Stands seen may_leave s (these ++ []) l) is st)
+pub ends_at : (number : ℕ) (these those last next : List (List ℕ)) (old mid c : Files) → these ≡ those ++ last → Has next (mid (number + 1))
+    → ((m : ℕ) → m ≢ number + 1 → mid m ≡ old m) → Changes number (HasAdded 0 (those ++ last) ([] ∷ [])) mid c → Turns number these next old c
+ends_at number these those last next old mid c all begun same changes =
+    ends number these next old mid begun same c (subst (λ l. Changes number (HasAdded 0 l ([] ∷ [])) mid c) (sym all) changes)
 
-pub closes_at : (k number : ℕ) (these next : List (List ℕ)) (old mid : Files) (fits : AreShort next) (begun : mid (number + 1) ≡ staged next [])
-    (same : (m : ℕ) → m ≢ number + 1 → mid m ≡ old m) (last c : Files) → k ≡ number → ((m : ℕ) → m ≢ number → last m ≡ mid m)
-    → Changes k (HasOrIs these (these ++ [] ∷ [])) last c → Turns number these next old c
-closes_at k number these next old mid fits begun same last c is others changes =
-    closes number these next old mid fits begun same last c others (subst (λ n. Changes n (HasOrIs these (these ++ [] ∷ [])) last c) is changes)
+pub closes_at : (number : ℕ) (these those next : List (List ℕ)) (old mid last c : Files) → these ≡ those → Has next (mid (number + 1))
+    → ((m : ℕ) → m ≢ number + 1 → mid m ≡ old m) → ((m : ℕ) → m ≢ number → last m ≡ mid m) → Changes number (HasOrIs those (those ++ [] ∷ [])) last c
+    → Turns number these next old c
+closes_at number these those next old mid last c all begun same others changes =
+    closes number these next old mid begun same last c others (subst (λ l. Changes number (HasOrIs l (l ++ [] ∷ [])) last c) (sym all) changes)
 
-pub has_turned : {D : Type 0} (seen : D → Files) (may_leave : D → Files → Type 0) (old new : SegmentState D) (begun closed : D) (k size : ℕ) (these next : List (List ℕ))
-    → IsStaged seen may_leave begun (old.number + 1) size size next [] → ((m : ℕ) → m ≢ old.number + 1 → seen begun m ≡ seen old.disk m)
-    → ((m : ℕ) → m ≢ old.number → seen closed m ≡ seen begun m) → ((m : ℕ) → m ≢ k → seen new.disk m ≡ seen closed m)
-    → k ≡ old.number → new.number ≡ k → Stands seen may_leave new (these ++ [] ∷ []) [] → HasTurned seen may_leave old new size these next
-has_turned seen may_leave old new begun closed k size these next staged_next first second third kept number stands =
-    let far : old.number + 1 ≢ old.number = λ is. omega (arith, is) in
-    let last : (m : ℕ) → m ≢ old.number → seen new.disk m ≡ seen closed m = λ m one. third m (λ is. one (is ∙ kept)) in
+pub has_turned : {D : Type 0} (seen : D → Files) (may_leave : D → Files → Type 0) (old new : SegmentState D) (begun closed : D) (size : ℕ) (these those next : List (List ℕ))
+    → IsStaged seen may_leave 2 begun (old.number + 1) 0 size [] next → ((m : ℕ) → m ≢ old.number + 1 → seen begun m ≡ seen old.disk m)
+    → ((m : ℕ) → m ≢ old.number → seen closed m ≡ seen begun m) → ((m : ℕ) → m ≢ old.number → seen new.disk m ≡ seen closed m)
+    → these ≡ those → IsAtRest seen may_leave new.disk old.number (those ++ [] ∷ []) → HasTurned seen may_leave old new size these next
+has_turned seen may_leave was new begun closed size these those next staged_next first second third all at_end =
+    let far : was.number + 1 ≢ was.number = λ is. omega (arith, is) in
     record {
-      unbroken = stands.unbroken;
-      begun = at_next seen may_leave begun new.disk (old.number + 1) size next staged_next
-          (last (old.number + 1) far ∙ second (old.number + 1) far) stands.staged.durable;
+      begun = moved_staged seen may_leave begun new.disk (was.number + 1) 0 size [] next staged_next
+          (third (was.number + 1) far ∙ second (was.number + 1) far) at_end.durable;
       ended = record {
-        file = ap (λ (n : ℕ). seen new.disk n) (sym (number ∙ kept)) ∙ stands.staged.file;
-        others = λ m one two. last m one ∙ second m one ∙ first m two;
+        file = at_end.file ∙ ap (λ (l : List (List ℕ)). at_rest (l ++ [] ∷ [])) (sym all);
+        others = λ m one two. third m one ∙ second m one ∙ first m two;
       };
     }
+
+-- nothing was done yet
+pub turns_none : (number : ℕ) (these next : List (List ℕ)) (old c : Files) → Has these (old number) → old (number + 1) ≡ [] → ((m : ℕ) → c m ≡ old m)
+    → Turns number these next old c
+turns_none number these next before c has empty same = record {
+  others = λ m one two. same m;
+  either = inl (subst (Has these) (sym (same number)) has, inl (has_unsynced [] [] (c (number + 1)) tt tt (same (number + 1) ∙ empty)));
+}
+
+pub end_batch : (bytes : List ℕ) (end : List (List ℕ)) → bytes ≡ batch 0 end → end ≡ [] ∷ [] → bytes ≡ batch 0 ([] ∷ [])
+end_batch bytes end is one = is ∙ ap (batch 0) one
 
 -- ---- the next head
 
 -- the batch that is spelled is its head
-pub next_spelled : {D : Type 0} (s : LogState D) (number size oldest : ℕ) (checkpoint : List ℕ) (batch : List (List ℕ)) → number ≡ s.segment.number → size ≡ s.segment.reach
-    → batch ≡ spelled (head_from (number + 1) (s.first + s.count) (size + 37 + 1) oldest s.id checkpoint) ∷ []
-    → IsWide (head_from (number + 1) (s.first + s.count) (size + 37 + 1) oldest s.id checkpoint) → IsNext s oldest checkpoint batch
-next_spelled s number size oldest checkpoint batch number_is size_is spelled_is wide =
-    let before : size + 37 + 1 ≡ s.segment.reach + 38 = omega (arith, size_is) in
-    let same : head_from (number + 1) (s.first + s.count) (size + 37 + 1) oldest s.id checkpoint ≡ next_head s oldest checkpoint =
-    ap (λ (n : ℕ). head_from (n + 1) (s.first + s.count) (size + 37 + 1) oldest s.id checkpoint) number_is
-    ∙ ap (λ (n : ℕ). head_from (s.segment.number + 1) (s.first + s.count) n oldest s.id checkpoint) before in
+pub next_spelled : {D : Type 0} (s : LogState D) (number size keep : ℕ) (checkpoint : List ℕ) (batch : List (List ℕ)) → number ≡ s.segment.number → size ≡ s.segment.reach
+    → batch ≡ spelled (head_from (number + 1) (s.first + s.count) (size + 45 + 1) keep s.id checkpoint) ∷ []
+    → IsWide (head_from (number + 1) (s.first + s.count) (size + 45 + 1) keep s.id checkpoint) → IsNext s keep checkpoint batch
+next_spelled s number size keep checkpoint batch number_is size_is spelled_is wide =
+    let before : size + 45 + 1 ≡ s.segment.reach + 46 = omega (arith, size_is) in
+    let same : head_from (number + 1) (s.first + s.count) (size + 45 + 1) keep s.id checkpoint ≡ next_head s keep checkpoint =
+    ap (λ (n : ℕ). head_from (n + 1) (s.first + s.count) (size + 45 + 1) keep s.id checkpoint) number_is
+    ∙ ap (λ (n : ℕ). head_from (s.segment.number + 1) (s.first + s.count) n keep s.id checkpoint) before in
     record { batch_is = spelled_is ∙ ap (λ (h : Head). spelled h ∷ []) same; wide = subst IsWide same wide }
 
-pub next_given : {D : Type 0} (s v : LogState D) (oldest : ℕ) (checkpoint : List ℕ) (batch given : List (List ℕ)) → v ≡ s → given ≡ batch → IsNext s oldest checkpoint batch
-    → IsNext v oldest checkpoint given
-next_given s v oldest checkpoint batch given is same next =
-    subst (λ t. IsNext t oldest checkpoint given) (sym is) (subst (λ b. IsNext s oldest checkpoint b) (sym same) next)
+pub next_given : {D : Type 0} (s v : LogState D) (keep : ℕ) (checkpoint : List ℕ) (batch given : List (List ℕ)) → v ≡ s → given ≡ batch → IsNext s keep checkpoint batch
+    → IsNext v keep checkpoint given
+next_given s v keep checkpoint batch given is same next =
+    subst (λ t. IsNext t keep checkpoint given) (sym is) (subst (λ b. IsNext s keep checkpoint b) (sym same) next)
 
-pub nothing_next : {D : Type 0} (seen : D → Files) (may_leave : D → Files → Type 0) (s : LogState D) (from : Origin) (head : Head) (records pending : List (List ℕ))
-    → Holds seen may_leave s from head records pending → seen s.segment.disk (s.segment.number + 1) ≡ []
-nothing_next seen may_leave s from head records pending h = h.none_above (s.segment.number + 1) (omega (arith, h.number))
-
-pub holds_as : {D : Type 0} (seen : D → Files) (may_leave : D → Files → Type 0) (s v : LogState D) (from : Origin) (head : Head) (records pending : List (List ℕ)) → v ≡ s
-    → Holds seen may_leave s from head records pending → Holds seen may_leave v from head records pending
-holds_as seen may_leave s v from head records pending is h = subst (λ t. Holds seen may_leave t from head records pending) (sym is) h
+pub nothing_next : {D : Type 0} (seen : D → Files) (may_leave : D → Files → Type 0) (s : LogState D) (from : Origin) (head : Head) (records : List (List ℕ))
+    → Holds seen may_leave s from head records → seen s.segment.disk (s.segment.number + 1) ≡ []
+nothing_next seen may_leave s from head records h = h.none_above (s.segment.number + 1) (omega (arith, h.number))
 
 module _ {D : Type 0} (seen : D → Files) (may_leave : D → Files → Type 0) (moment : D → ℕ) (left_since : D → ℕ → Files → Type 0) (old new : LogState D) (checkpoint : List ℕ)
     (n m : ℕ) (is : n ≡ m) where
@@ -291,40 +276,9 @@ module _ {D : Type 0} (seen : D → Files) (may_leave : D → Files → Type 0) 
       → LeavesGoing seen may_leave moment left_since old new (next_head old m checkpoint)
   going_as going = subst (λ k. LeavesGoing seen may_leave moment left_since old new (next_head old k checkpoint)) is going
 
-  pub goes_as : (from : Origin) (all : List (List ℕ)) → Holds seen may_leave new from (next_head old n checkpoint) all []
-      → Holds seen may_leave new from (next_head old m checkpoint) all []
-  goes_as from all h = subst (λ k. Holds seen may_leave new from (next_head old k checkpoint) all []) is h
-
--- it is the same before what was pending was settled
-pub next_same : {D : Type 0} (s t v : LogState D) (oldest : ℕ) (checkpoint : List ℕ) → v ≡ t → t ≡ record s { segment = t.segment }
-    → t.segment.reach ≡ s.segment.reach → t.segment.number ≡ s.segment.number → next_head v oldest checkpoint ≡ next_head s oldest checkpoint
-next_same {D} s t v oldest checkpoint is kept size number =
-    let first : t.first ≡ s.first = ap (λ (l : LogState D). l.first) kept in
-    let count : t.count ≡ s.count = ap (λ (l : LogState D). l.count) kept in
-    let id : t.id ≡ s.id = ap (λ (l : LogState D). l.id) kept in
-    let all : t.first + t.count ≡ s.first + s.count = omega (arith, first, count) in
-    ap (λ (l : LogState D). next_head l oldest checkpoint) is
-    ∙ ap (λ (n : ℕ). head_from (n + 1) (t.first + t.count) (t.segment.reach + 38) oldest t.id checkpoint) number
-    ∙ ap (λ (n : ℕ). head_from (s.segment.number + 1) n (t.segment.reach + 38) oldest t.id checkpoint) all
-    ∙ ap (λ (n : ℕ). head_from (s.segment.number + 1) (s.first + s.count) (n + 38) oldest t.id checkpoint) size
-    ∙ ap (λ (n : ℕ). head_from (s.segment.number + 1) (s.first + s.count) (s.segment.reach + 38) oldest n checkpoint) id
-
-pub goes_either : (id : ℕ) (from : Origin) (head next : Head) (these all : List (List ℕ)) (c : Files) → IsEither id from head these all c
-    → IsEitherOrNext id from head next these all c
-goes_either id from head next these all c is = inl is
-
-pub goes_all : (id other : ℕ) (from : Origin) (head next its : Head) (these all : List (List ℕ)) (c : Files) → other ≡ id → its ≡ next
-    → IsLog other c from head all ⊎ IsLog other c from its all → IsEitherOrNext id from head next these all c
-goes_all id other from head next its these all c is same (inl log) = inl (inr (subst (λ n. IsLog n c from head all) is log))
-goes_all id other from head next its these all c is same (inr log) = inr (subst (λ n. IsLog n c from next all) is (subst (λ h. IsLog other c from h all) same log))
-
-pub holds_next : {D : Type 0} (seen : D → Files) (may_leave : D → Files → Type 0) (s : LogState D) (from : Origin) (next its : Head) (records : List (List ℕ)) → its ≡ next
-    → Holds seen may_leave s from its records [] → Holds seen may_leave s from next records []
-holds_next seen may_leave s from next its records is h = subst (λ n. Holds seen may_leave s from n records []) is h
-
-pub leaves_as : {D : Type 0} (moment : D → ℕ) (left_since : D → ℕ → Files → Type 0) (old : D) (s v : LogState D) (P : Files → Type 0) → v ≡ s
-    → LeavesOnly moment left_since old s.segment.disk P → LeavesOnly moment left_since old v.segment.disk P
-leaves_as moment left_since old s v P is run = subst (λ t. LeavesOnly moment left_since old t.segment.disk P) (sym is) run
+  pub goes_as : (from : Origin) (all : List (List ℕ)) → Holds seen may_leave new from (next_head old n checkpoint) all
+      → Holds seen may_leave new from (next_head old m checkpoint) all
+  goes_as from all h = subst (λ k. Holds seen may_leave new from (next_head old k checkpoint) all) is h
 
 pub leaves_at : {D : Type 0} (moment : D → ℕ) (left_since : D → ℕ → Files → Type 0) (old now new : D) (P : Files → Type 0) → new ≡ now
     → LeavesOnly moment left_since old now P → LeavesOnly moment left_since old new P

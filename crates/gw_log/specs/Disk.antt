@@ -1,5 +1,5 @@
 -- What a disk is: a folder of numbered files, what its calls do to them, and what a crash may leave between two syncs.
-use Rattle.std.specs.Prelude.{◌≡◌, ◌≢◌, ◌⊎◌, ◌<◌, ◌≤◌, ◌+◌, ℕ, min, max, List, [], ◌++◌, length, take, drop, Result, IsErrOf}
+use Rattle.std.specs.Prelude.{◌≡◌, ◌≢◌, ◌⊎◌, ⊤, ◌<◌, ◌≤◌, ◌+◌, ℕ, min, List, [], ◌∷◌, ◌++◌, length, take, drop, Result, IsErrOf}
 use Rattle.gw_log.specs.declared.disk.DiskFault.{DiskFault}
 use Rattle.gw_log.specs.declared.disk.DiskFault.TheVariants.{Failed}
 
@@ -16,12 +16,18 @@ pub record Changes (number : ℕ) (P : List ℕ → Type 0) (old new : Files) : 
 abbrev pub IsWritten : ℕ → List ℕ → List ℕ → List ℕ → Type 0
 IsWritten at bytes old new = new ≡ take at old ++ bytes ++ drop (at + length bytes) old
 
--- A torn write of n bytes, or one that did not happen: any bytes in the range and past the old end, the same elsewhere
-pub record Torn (at n : ℕ) (old new : List ℕ) : Type 0 where
+-- Bytes over which these were written, and what a crash left: each byte as it was, or as it was written. Past the old end each is missing, 0, or as written
+abbrev pub IsMixed : (old bytes new : List ℕ) → Type 0
+IsMixed old [] new = new ≡ old
+IsMixed [] (byte ∷ bytes) [] = ⊤
+IsMixed [] (byte ∷ bytes) (x ∷ new) = ((x ≡ 0) ⊎ (x ≡ byte)) × IsMixed [] bytes new
+IsMixed (o ∷ old) (byte ∷ bytes) [] = ⊥
+IsMixed (o ∷ old) (byte ∷ bytes) (x ∷ new) = ((x ≡ o) ⊎ (x ≡ byte)) × IsMixed old bytes new
+
+-- A torn write of these bytes, or one that did not happen
+pub record Torn (at : ℕ) (bytes old new : List ℕ) : Type 0 where
   pub before : take at new ≡ take at old
-  pub after : drop (at + n) new ≡ drop (at + n) old
-  pub no_shorter : length old ≤ length new
-  pub no_longer : length new ≤ max (length old) (at + n)
+  pub mixed : IsMixed (drop at old) bytes (drop at new)
 
 -- a cut to n bytes that a crash may stop, or one that did not happen: some length between
 pub record Cut (n : ℕ) (old new : List ℕ) : Type 0 where

@@ -49,7 +49,7 @@ seen_after first (Failed ∷ before) = seen_after first before
 -- what a crash may leave then
 abbrev pub may_after : Files → List Event → Files → Type 0
 may_after first [] c = (number : ℕ) → c number ≡ first number
-may_after first (Wrote number at bytes ∷ before) c = After number (Torn at (length bytes)) (may_after first before) c
+may_after first (Wrote number at bytes ∷ before) c = After number (Torn at bytes) (may_after first before) c
 may_after first (CutTo number len ∷ before) c = After number (Cut len) (may_after first before) c
 may_after first (Synced number ∷ before) c = may_after first before c × (c number ≡ seen_after first before number)
 may_after first (Removed number ∷ before) c = After number IsGone (may_after first before) c

@@ -5,7 +5,7 @@ use Rattle.gw_log.specs.File.{HasRecordAt}
 use Rattle.gw_log.specs.Chain.{Head, spelled, IsWide, Origin, IsLog, LogState}
 
 -- the file begins with a head of this log and number, which says these
-pub record BeginsAs (id number first before oldest : ℕ) (file : List ℕ) : Type 0 where
+pub record BeginsAs (id number first before keep : ℕ) (file : List ℕ) : Type 0 where
   pub head : Head
   pub wide : IsWide head
   pub here : HasRecordAt 0 (spelled head) file
@@ -13,11 +13,23 @@ pub record BeginsAs (id number first before oldest : ℕ) (file : List ℕ) : Ty
   pub its_number : head.number ≡ number
   pub its_first : head.first ≡ first
   pub its_before : head.before ≡ before
-  pub its_oldest : head.oldest ≡ oldest
+  pub its_keep : head.keep ≡ keep
+
+-- it begins with one that says this number, and a place of its first record that isn't above this one
+pub record BeginsBy (id number place : ℕ) (file : List ℕ) : Type 0 where
+  pub first : ℕ
+  pub before : ℕ
+  pub keep : ℕ
+  pub begins : BeginsAs id number first before keep file
+  pub within : first ≤ place
+
+-- what the folder is a log of, it is of this number
+abbrev pub IsOnlyOf : ℕ → Files → Type 0
+IsOnlyOf id files = (other : ℕ) (from : Origin) (head : Head) (records : List (List ℕ)) → IsLog other files from head records → other ≡ id
 
 -- the last file of a log begins with the head that its state tells
 abbrev pub HasItsHead : {D : Type 0} → (D → Files) → ℕ → D → LogState D → Type 0
-HasItsHead seen id disk s = (before : ℕ) × BeginsAs id s.segment.number s.first before s.oldest (seen disk s.segment.number)
+HasItsHead seen id disk s = (before : ℕ) × BeginsAs id s.segment.number s.first before s.keep (seen disk s.segment.number)
 
 -- These rows are the records of a log's last file: its head, and then the log's own, from the place on that the head says
 pub record AreOfLast (from : Origin) (head : Head) (records rows : List (List ℕ)) : Type 0 where
@@ -35,8 +47,8 @@ GivesLast seen id disk rows =
 -- it begins with one that follows on a file of this length
 pub record IsPlaced (id number before : ℕ) (file : List ℕ) : Type 0 where
   pub first : ℕ
-  pub oldest : ℕ
-  pub begins : BeginsAs id number first before oldest file
+  pub keep : ℕ
+  pub begins : BeginsAs id number first before keep file
 
 -- Each file from the first to the last begins with a head of this log and of its own number, which says how long the file before it is
 pub record AreLinked (id : ℕ) (files : Files) (first last : ℕ) : Type 0 where

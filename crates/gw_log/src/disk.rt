@@ -91,7 +91,7 @@ pub trait Disk {
     fn write_at(&mut self, number: u64, at: usize, bytes: &[u8]) -> Result<(), DiskFault>
         ensures written { OnOk result
             (Changes number (IsWritten at bytes.now (seen self.old number)) (seen self.old) (seen self.new)) }
-        ensures crash { Follows number (Torn at (length bytes.now))
+        ensures crash { Follows number (Torn at bytes.now)
             (may_leave self.old) (may_leave self.new) }
         ensures time { Elapses moment left_since may_leave self.old self.new }
         ensures back { honest self.new → honest self.old }

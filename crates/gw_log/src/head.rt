@@ -19,8 +19,8 @@ pub struct Head<'a> {
     pub first: u64,
     /// How many bytes the file before this one has.
     pub before: u64,
-    /// Files of a number below this one may be gone.
-    pub oldest: u64,
+    /// Records at places below this one may be gone.
+    pub keep: u64,
     /// The log's own number.
     pub id: u64,
     /// Bytes that a start needs. A log doesn't read them.
@@ -32,7 +32,7 @@ impl<'a> Model for Head<'a> {
 
     ghost Value = { spec.Head };
 
-    ghost view = { λ h. record { number = h.number; first = h.first; before = h.before; oldest = h.oldest; id = h.id; checkpoint = h.checkpoint.now } };
+    ghost view = { λ h. record { number = h.number; first = h.first; before = h.before; keep = h.keep; id = h.id; checkpoint = h.checkpoint.now } };
 }
 
 /// The bytes of a head, as a batch of one record.
@@ -44,7 +44,7 @@ pub(crate) fn spell_head(alloc: Global, head: &Head<'_>) -> Result<Vec<Vec<u8>>,
     bytes.extend_from_slice(&head.number.to_be_bytes())?;
     bytes.extend_from_slice(&head.first.to_be_bytes())?;
     bytes.extend_from_slice(&head.before.to_be_bytes())?;
-    bytes.extend_from_slice(&head.oldest.to_be_bytes())?;
+    bytes.extend_from_slice(&head.keep.to_be_bytes())?;
     bytes.extend_from_slice(&head.id.to_be_bytes())?;
     bytes.extend_from_slice(head.checkpoint)?;
     let mut out = Vec::new(alloc);
@@ -86,13 +86,13 @@ pub fn read_head(bytes: &[u8]) -> Option<Head<'_>>
     let (number, rest) = number_at(bytes);
     let (first, rest) = number_at(rest);
     let (before, rest) = number_at(rest);
-    let (oldest, rest) = number_at(rest);
+    let (keep, rest) = number_at(rest);
     let (id, checkpoint) = number_at(rest);
     Some(Head {
         number,
         first,
         before,
-        oldest,
+        keep,
         id,
         checkpoint,
     })

@@ -27,7 +27,7 @@ pub struct Log<D: Disk> {
     id: u64,
     first: u64,
     count: u64,
-    oldest: u64,
+    keep: u64,
     least: u64,
 }
 
@@ -36,7 +36,7 @@ impl<D: Disk> Model for Log<D> {
 
     ghost Value = { LogState D };
 
-    ghost view = { λ l. record { segment = l.segment; id = l.id; first = l.first; count = l.count; oldest = l.oldest; least = l.least } };
+    ghost view = { λ l. record { segment = l.segment; id = l.id; first = l.first; count = l.count; keep = l.keep; least = l.least } };
 }
 
 // Whether no record is empty.
@@ -93,7 +93,7 @@ fn head_alone<D: Disk>(
         number: 1,
         first: 0,
         before: 0,
-        oldest: 1,
+        keep: 0,
         id,
         checkpoint,
     };
@@ -103,10 +103,11 @@ fn head_alone<D: Disk>(
 impl<D: Disk> Log<D> {
     ghost use Rattle.std.specs.Prelude.{◌≡◌, ◌⊎◌, ◌+◌, ◌-◌, ◌<◌, ◌≤◌, ◌^◌, min, max, [], true, ℕ, IsFalse, IsErrOf, IfOk, IfErr, OnOk, OnErr, length};
     ghost use Rattle.gw_log.specs.Chain.{AreSome, Holds, HoldsAll, IsNoLog, LeavesLog, Commits, LeavesCounted, GoesOn, LeavesGoing};
-    ghost use Rattle.gw_log.specs.Chain.{Retires, LeavesFewer, beginning, first_head, next_head};
+    ghost use Rattle.gw_log.specs.Chain.{Retires, LeavesFewer, beginning, first_head, next_head, with_disk};
+    ghost use Rattle.gw_log.specs.own.Opens.{Reads};
     ghost use Rattle.gw_log.specs.own.Turns.{IsNext};
     ghost use Rattle.gw_log.specs.File.{Has, AreInLimit};
-    ghost use Rattle.gw_log.specs.Opening.{HasItsHead, GivesLast, AreLinked, IsSealed};
+    ghost use Rattle.gw_log.specs.Opening.{BeginsBy, HasItsHead, GivesLast, AreLinked, IsSealed};
     ghost use Rattle.gw_log.specs.Disk.{Only};
     ghost use Rattle.gw_log.specs.State.{records_of};
 
@@ -121,7 +122,7 @@ impl<D: Disk> Log<D> {
         requires { Only (D.seen disk) (D.may_leave disk) }
         ensures ok { IfOk result (λ log.
             D.honest log.segment.disk →
-            Holds D.seen D.may_leave log beginning (first_head id checkpoint.now) [] []) }
+            Holds D.seen D.may_leave log beginning (first_head id checkpoint.now) []) }
         ensures id { IfOk result (λ log. log.id ≡ id) }
 
         // `Taken` comes only where a file has a byte, and leaves the folder as it was.
@@ -129,6 +130,7 @@ impl<D: Disk> Log<D> {
         ensures untouched { IfErr result (λ e. e.0 ≡ LogFault.Taken → Only (D.seen disk) (D.may_leave e.1)) }
         ensures seen { IfErr result (λ e. e.0 ≡ LogFault.Taken → D.seen e.1 ≡ D.seen disk) }
         ensures back { IfOk result (λ log. D.honest log.segment.disk → D.honest disk) }
+        ensures back_err { IfErr result (λ e. D.honest e.1 → D.honest disk) }
     {
         let mut disk = disk;
         let head = match head_alone(alloc, &mut disk, id, checkpoint) {
@@ -143,7 +145,7 @@ impl<D: Disk> Log<D> {
                 id,
                 first: 0,
                 count: 0,
-                oldest: 1,
+                keep: 0,
                 least: 1,
             }),
         }
@@ -168,7 +170,9 @@ impl<D: Disk> Log<D> {
         ensures linked { IfOk result (λ r. D.honest r.0.segment.disk →
             AreLinked id (D.seen disk) r.0.least r.0.segment.number) }
         ensures head { IfOk result (λ r. D.honest r.0.segment.disk → HasItsHead D.seen id disk r.0) }
-        ensures there { IfOk result (λ r. r.0.least ≤ r.0.oldest) }
+        // No record is gone but before the place from which on they have to be there.
+        ensures there { IfOk result (λ r. D.honest r.0.segment.disk →
+            BeginsBy id r.0.least r.0.keep (D.seen disk r.0.least)) }
         ensures behind { IfOk result (λ r. D.honest r.0.segment.disk → (n : ℕ) →
             r.0.segment.number + 1 < n → D.seen disk n ≡ []) }
         ensures unsealed { IfOk result (λ r. IsSealed (records_of r.1.items) → ⊥) }
@@ -185,6 +189,7 @@ impl<D: Disk> Log<D> {
             e.0 ≡ LogFault.Damaged segment at → Only (D.seen disk) (D.may_leave e.1)) }
         ensures missing { IfErr result (λ e. D.honest e.1 → e.0 ≡ LogFault.Missing → (n : ℕ) → D.seen disk n ≡ []) }
         ensures back { IfOk result (λ r. D.honest r.0.segment.disk → D.honest disk) }
+        ensures back_err { IfErr result (λ e. D.honest e.1 → D.honest disk) }
     {
         let mut disk = disk;
         let found = match open_folder(alloc, &mut disk, id) {
@@ -201,19 +206,19 @@ impl<D: Disk> Log<D> {
         } = found;
         let log = Log {
             alloc,
-            segment: Segment::over(alloc, disk, number, end),
+            segment: Segment::over(alloc, disk, number, end.reach),
             id,
             first: place.first,
             count: (records.len() as u64).saturating_sub(1),
-            oldest: place.oldest,
+            keep: place.keep,
             least,
         };
         Ok((log, records))
     }
 
-    /// Puts a batch behind the others, and brings it to the disk. It counts only once the next batch was put, or the log was settled.
+    /// Puts a batch behind the others, and brings it to the disk by one sync.
     pub fn put(&mut self, batch: &[Vec<u8>]) -> Result<(), LogFault>
-        // At `Ok` all that was pending counts, whatever crash comes, and the batch is pending.
+        // At `Ok` the batch counts, whatever crash comes.
         ensures ok { Commits D.seen D.may_leave self.old self.new (records_of batch.now) result }
         ensures err { OnErr result ((self.new ≡ self.old) ⊎ (self.new.segment.broken ≡ true)) }
         ensures full { IsErrOf result LogFault.Full →
@@ -221,8 +226,9 @@ impl<D: Disk> Log<D> {
         ensures empty { IsErrOf result LogFault.Empty → AreSome (records_of batch.now) → ⊥ }
         ensures long { IsErrOf result LogFault.TooLong → AreInLimit (records_of batch.now) → ⊥ }
 
-        // A crash at any moment leaves a log of what counted, or of that with all that was pending.
-        ensures any_moment { LeavesCounted D.seen D.may_leave D.moment D.left_since self.old self.new }
+        // A crash at any moment leaves a log of what there was, or of that with the batch.
+        ensures any_moment { LeavesCounted D.seen D.may_leave D.moment D.left_since
+            self.old self.new (records_of batch.now) }
         ensures back { D.honest self.new.segment.disk → D.honest self.old.segment.disk }
     {
         test_batch(self.count, batch)?;
@@ -231,26 +237,11 @@ impl<D: Disk> Log<D> {
         Ok(())
     }
 
-    /// Brings all that is pending to the disk, so that it counts.
-    pub fn settle(&mut self) -> Result<(), LogFault>
-        ensures ok { Commits D.seen D.may_leave self.old self.new [] result }
-        ensures err { OnErr result (self.new.segment.broken ≡ true) }
-        ensures any_moment { LeavesCounted D.seen D.may_leave D.moment D.left_since self.old self.new }
-        ensures kept { self.new ≡ record self.old { segment = self.new.segment } }
-        ensures full { IsErrOf result LogFault.Full → ⊥ }
-        ensures long { IsErrOf result LogFault.TooLong → ⊥ }
-        ensures size { self.new.segment.reach ≡ self.old.segment.reach }
-        ensures number { self.new.segment.number ≡ self.old.segment.number }
-        ensures back { D.honest self.new.segment.disk → D.honest self.old.segment.disk }
-    {
-        self.segment.settle()?;
-        Ok(())
-    }
-
     // The head of the file behind the last one, as a batch.
-    fn next_head(&self, oldest: u64, checkpoint: &[u8]) -> Result<Vec<Vec<u8>>, LogFault>
-        ensures ok { IfOk result (λ out. IsNext self.now oldest checkpoint.now (records_of out.items)) }
+    fn next_head(&self, keep: u64, checkpoint: &[u8]) -> Result<Vec<Vec<u8>>, LogFault>
+        ensures ok { IfOk result (λ out. IsNext self.now keep checkpoint.now (records_of out.items)) }
         ensures room { OnOk result (self.now.segment.number < 2 ^ 62) }
+        ensures size { OnOk result (self.now.segment.reach < 2 ^ 60) }
         ensures full { IsErrOf result LogFault.Full →
             (2 ^ 62 ≤ self.now.segment.number) ⊎ (2 ^ 62 ≤ self.now.first)
             ⊎ (2 ^ 63 ≤ self.now.count) ⊎ (2 ^ 60 ≤ self.now.segment.reach) }
@@ -264,7 +255,7 @@ impl<D: Disk> Log<D> {
             number: number + 1,
             first: self.first + self.count,
             before: (size + BEFORE + 1) as u64,
-            oldest,
+            keep,
             id: self.id,
             checkpoint,
         };
@@ -272,44 +263,43 @@ impl<D: Disk> Log<D> {
     }
 
     // Goes on to the next file.
-    fn go_on(&mut self, oldest: u64, checkpoint: &[u8]) -> Result<(), LogFault>
-        requires { self.old.oldest ≤ oldest }
+    fn go_on(&mut self, keep: u64, checkpoint: &[u8]) -> Result<(), LogFault>
+        requires { self.old.keep ≤ keep }
         ensures ok { GoesOn D.seen D.may_leave self.old self.new
-            (next_head self.old oldest checkpoint.now) result }
+            (next_head self.old keep checkpoint.now) result }
         ensures any_moment { LeavesGoing D.seen D.may_leave D.moment D.left_since self.old self.new
-            (next_head self.old oldest checkpoint.now) }
+            (next_head self.old keep checkpoint.now) }
         ensures full { IsErrOf result LogFault.Full →
             (2 ^ 62 ≤ self.old.segment.number) ⊎ (2 ^ 62 ≤ self.old.first)
             ⊎ (2 ^ 63 ≤ self.old.count) ⊎ (2 ^ 60 ≤ self.old.segment.reach) }
         ensures long { IsErrOf result LogFault.TooLong → 2 ^ 31 < length checkpoint.now + 40 }
         ensures back { D.honest self.new.segment.disk → D.honest self.old.segment.disk }
     {
-        self.settle()?;
-        let next = self.next_head(oldest, checkpoint)?;
+        let next = self.next_head(keep, checkpoint)?;
         let end = seal(self.alloc)?;
         self.segment.follow(&next, &end)?;
         self.first += self.count;
         self.count = 0;
-        self.oldest = oldest;
+        self.keep = keep;
         Ok(())
     }
 
-    /// Ends the last file, once all that is pending counts, and begins the next one, whose head has this checkpoint and says below which number files may go.
-    pub fn begin_next(&mut self, oldest: u64, checkpoint: &[u8]) -> Result<(), LogFault>
+    /// Ends the last file, and begins the next one, whose head has this checkpoint. Files may go whose records all stand at places below `keep`.
+    pub fn begin_next(&mut self, keep: u64, checkpoint: &[u8]) -> Result<(), LogFault>
         ensures ok { GoesOn D.seen D.may_leave self.old self.new
-            (next_head self.old (max oldest self.old.oldest) checkpoint.now) result }
+            (next_head self.old (max keep self.old.keep) checkpoint.now) result }
         ensures err { OnErr result (self.new.segment.broken ≡ true) }
         ensures full { IsErrOf result LogFault.Full →
             (2 ^ 62 ≤ self.old.segment.number) ⊎ (2 ^ 62 ≤ self.old.first)
             ⊎ (2 ^ 63 ≤ self.old.count) ⊎ (2 ^ 60 ≤ self.old.segment.reach) }
         ensures long { IsErrOf result LogFault.TooLong → 2 ^ 31 < length checkpoint.now + 40 }
 
-        // A crash at any moment leaves a log with the old head, or all records with the new one.
+        // A crash at any moment leaves a log of the same records, with the old head or the new one.
         ensures any_moment { LeavesGoing D.seen D.may_leave D.moment D.left_since self.old self.new
-            (next_head self.old (max oldest self.old.oldest) checkpoint.now) }
+            (next_head self.old (max keep self.old.keep) checkpoint.now) }
         ensures back { D.honest self.new.segment.disk → D.honest self.old.segment.disk }
     {
-        match self.go_on(oldest.max(self.oldest), checkpoint) {
+        match self.go_on(keep.max(self.keep), checkpoint) {
             Ok(()) => Ok(()),
             Err(fault) => {
                 self.segment.fail();
@@ -318,17 +308,47 @@ impl<D: Disk> Log<D> {
         }
     }
 
-    /// Removes the first file, if it is one of those that may be gone. False: it isn't.
+    // Whether the first file may go: it isn't the last, and the next one begins no later than at the place from which on records are kept.
+    fn may_go(&mut self) -> Result<bool, LogFault>
+        ensures next { D.honest self.new.segment.disk → IfOk result (λ may. IsTrue may →
+            BeginsBy self.old.id (self.old.least + 1) self.old.keep (D.seen self.old.segment.disk (self.old.least + 1))) }
+        ensures behind { IfOk result (λ may. IsTrue may → self.old.least < self.old.segment.number) }
+        ensures room { IfOk result (λ may. IsTrue may → self.new.least < 2 ^ 64 - 1) }
+        ensures reads { Reads D.seen D.may_leave D.moment D.left_since D.honest
+            self.old.segment.disk self.new.segment.disk }
+        ensures kept { OnOk result (self.new ≡ with_disk self.new.segment.disk self.old) }
+        ensures err { OnErr result (self.new.segment.broken ≡ true) }
+    {
+        if self.least >= self.segment.number() {
+            return Ok(false);
+        }
+        match self.segment.place_of(self.id, self.least + 1) {
+            Ok(next) => Ok(next.first <= self.keep),
+            Err(LogFault::Memory) => Ok(false),
+            Err(fault) => {
+                self.segment.fail();
+                Err(fault)
+            }
+        }
+    }
+
+    /// Removes the first file, if all its records stand before the place that the last head names. It reads the head of the next one.
+    /// False: no file was changed.
     pub fn retire(&mut self) -> Result<bool, LogFault>
-        ensures ok { Retires D.seen D.may_leave self.old self.new result }
-        ensures none { IfOk result (λ done. IsFalse done → self.new ≡ self.old) }
+        ensures ok { D.honest self.new.segment.disk → Retires D.seen D.may_leave self.old self.new result }
+        ensures next { D.honest self.new.segment.disk → IfOk result (λ done. IsTrue done →
+            BeginsBy self.old.id (self.old.least + 1) self.old.keep (D.seen self.old.segment.disk (self.old.least + 1))) }
+        ensures none { IfOk result (λ done. IsFalse done → self.new ≡ with_disk self.new.segment.disk self.old) }
+        ensures none_seen { IfOk result (λ done. IsFalse done → D.seen self.new.segment.disk ≡ D.seen self.old.segment.disk) }
         ensures err { OnErr result (self.new.segment.broken ≡ true) }
 
         // A crash leaves the log as it was, or without the records of the first file.
-        ensures any_moment { LeavesFewer D.seen D.may_leave D.moment D.left_since self.old self.new }
+        ensures any_moment { D.honest self.new.segment.disk →
+            LeavesFewer D.seen D.may_leave D.moment D.left_since self.old self.new }
         ensures back { D.honest self.new.segment.disk → D.honest self.old.segment.disk }
     {
-        if self.least >= self.oldest || self.least >= self.segment.number() {
+        let may = self.may_go()?;
+        if !may {
             return Ok(false);
         }
         self.segment.remove(self.least)?;
@@ -336,7 +356,7 @@ impl<D: Disk> Log<D> {
         Ok(true)
     }
 
-    /// How many records stand in the log, with those that are pending.
+    /// How many records stand in the log.
     pub fn len(&self) -> u64
         ensures { result ≡ min (self.now.first + self.now.count) (2 ^ 64 - 1) }
     {
@@ -348,13 +368,6 @@ impl<D: Disk> Log<D> {
         ensures { result ≡ self.now.segment.reach }
     {
         self.segment.size()
-    }
-
-    /// How many of them count whatever crash comes.
-    pub fn settled(&self) -> usize
-        ensures { result ≡ self.now.segment.end }
-    {
-        self.segment.settled()
     }
 
     /// The number of the last file.
@@ -374,7 +387,7 @@ impl<D: Disk> Log<D> {
             id: _,
             first: _,
             count: _,
-            oldest: _,
+            keep: _,
             least: _,
         } = self;
         segment.into_disk()

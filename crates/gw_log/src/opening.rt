@@ -3,33 +3,25 @@ ghost use Rattle.std.specs.Prelude.{◌≡◌, ◌≢◌, ◌+◌, ◌<◌, ◌�
 ghost use Rattle.gw_log.specs.Chain.{IsNoLog, LeavesLog};
 ghost use Rattle.gw_log.specs.Disk.{Only};
 ghost use Rattle.gw_log.specs.File.{Has, IsDamagedAt, OnDamaged};
-ghost use Rattle.gw_log.specs.Opening.{BeginsAs, AreLinked, IsSealed};
+ghost use Rattle.gw_log.specs.Opening.{BeginsAs, BeginsBy, AreLinked, IsSealed};
 ghost use Rattle.gw_log.specs.State.{IsStaged, records_of};
-ghost use Rattle.gw_log.specs.own.Opens.{Reads, LeavesTrimmed, Finds, IsLastOf, IsTop, HasNoHead, IsNoLogOf, IsNoLogUpTo};
+ghost use Rattle.gw_log.specs.own.Opens.{Reads, LeavesTrimmed, Finds, IsLastOf, IsTop, IsNoLogOf, IsNoLogUpTo};
 ghost use Rattle.gw_log.specs.own.Steps.{UpTo};
 
 use crate::disk::{Disk, DiskFault};
 use crate::fault::LogFault;
-use crate::head::read_head;
-use crate::reading::{read_records, record_at};
+use crate::place::{Place, head_of};
+use crate::reading::{End, read_records};
 use crate::segment::read_all;
 use crate::steps;
 use std::alloc::Global;
-
-/// What the head of a file says, but for the file's number and the log's.
-#[derive(Clone, Copy)]
-pub(crate) struct Place {
-    pub first: u64,
-    pub before: u64,
-    pub oldest: u64,
-}
 
 /// The last file of a folder: its number, its records, where they end, what its head says, and the least number of a file.
 #[derive(Drop)]
 pub(crate) struct Found {
     pub number: u64,
     pub records: Vec<Vec<u8>>,
-    pub end: usize,
+    pub end: End,
     pub place: Place,
     pub least: u64,
     pub top: u64,
@@ -40,9 +32,9 @@ fn read_file<D: Disk>(
     alloc: Global,
     disk: &mut D,
     number: u64,
-) -> Result<(Vec<Vec<u8>>, usize), LogFault>
+) -> Result<(Vec<Vec<u8>>, End), LogFault>
     ensures up { D.honest disk.new → IfOk result (λ r.
-        UpTo (D.seen disk.old number) r.1 (records_of r.0.items)) }
+        UpTo (D.seen disk.old number) r.1.gate r.1.reach r.1.size (records_of r.0.items)) }
     ensures damaged { D.honest disk.new → (segment at : ℕ) → IsErrOf result (LogFault.Damaged segment at) →
         IsDamagedAt at (D.seen disk.old number) }
     ensures reads { Reads D.seen D.may_leave D.moment D.left_since D.honest disk.old disk.new }
@@ -64,32 +56,6 @@ fn is_sealed(records: &[Vec<u8>]) -> bool
     records[size - 1].is_empty()
 }
 
-// What the head of a file says, which has to be of this log and of the file's own number.
-fn head_of<D: Disk>(alloc: Global, disk: &mut D, id: u64, number: u64) -> Result<Place, LogFault>
-    ensures begins { D.honest disk.new → IfOk result (λ p.
-        BeginsAs id number p.first p.before p.oldest (D.seen disk.old number)) }
-    ensures damaged { D.honest disk.new → OnDamaged result (HasNoHead id number (D.seen disk.old number)) }
-    ensures reads { Reads D.seen D.may_leave D.moment D.left_since D.honest disk.old disk.new }
-    ensures missing { IsErrOf result LogFault.Missing → ⊥ }
-{
-    let bytes = record_at(alloc, disk, number, 0)?;
-    let misplaced = LogFault::Damaged {
-        segment: number,
-        at: 0,
-    };
-    let Some(head) = read_head(&bytes) else {
-        return Err(misplaced);
-    };
-    if head.number != number || head.id != id {
-        return Err(misplaced);
-    }
-    Ok(Place {
-        first: head.first,
-        before: head.before,
-        oldest: head.oldest,
-    })
-}
-
 // What the head of the last file says. Each file from the first on has to have the head that follows on the file before it.
 fn linked<D: Disk>(
     alloc: Global,
@@ -100,14 +66,16 @@ fn linked<D: Disk>(
 ) -> Result<Place, LogFault>
     requires { first ≤ last }
     ensures begins { D.honest disk.new → IfOk result (λ p.
-        BeginsAs id last p.first p.before p.oldest (D.seen disk.old last)) }
+        BeginsAs id last p.first p.before p.keep (D.seen disk.old last)) }
     ensures linked { D.honest disk.new → OnOk result (AreLinked id (D.seen disk.old) first last) }
-    ensures there { IfOk result (λ p. first ≤ p.oldest) }
+    ensures there { D.honest disk.new → IfOk result (λ p.
+        BeginsBy id first p.keep (D.seen disk.old first)) }
     ensures damaged { D.honest disk.new → OnDamaged result (IsNoLogOf id first last (D.seen disk.old)) }
     ensures reads { Reads D.seen D.may_leave D.moment D.left_since D.honest disk.old disk.new }
     ensures missing { IsErrOf result LogFault.Missing → ⊥ }
 {
-    let mut place = head_of(alloc, disk, id, first)?;
+    let start = head_of(alloc, disk, id, first)?;
+    let mut place = start;
     let mut number = first;
     while number < last {
         let size = disk.size(number)?;
@@ -121,9 +89,9 @@ fn linked<D: Disk>(
         place = next;
         number += 1;
     }
-    if place.oldest < first {
+    if place.keep < start.first {
         return Err(LogFault::Damaged {
-            segment: place.oldest,
+            segment: first.saturating_sub(1),
             at: 0,
         });
     }
@@ -136,10 +104,10 @@ fn last_born<D: Disk>(
     disk: &mut D,
     first: u64,
     top: u64,
-) -> Result<(u64, Vec<Vec<u8>>, usize), LogFault>
+) -> Result<(u64, Vec<Vec<u8>>, End), LogFault>
     requires { first ≤ top }
     ensures up { D.honest disk.new → IfOk result (λ r.
-        UpTo (D.seen disk.old r.0) r.2 (records_of r.1.items)) }
+        UpTo (D.seen disk.old r.0) r.2.gate r.2.reach r.2.size (records_of r.1.items)) }
     ensures last { D.honest disk.new → IfOk result (λ r. IsLastOf first top r.0 (D.seen disk.old)) }
     ensures low { IfOk result (λ r. first ≤ r.0) }
     ensures near { IfOk result (λ r. r.0 ≤ top) }
@@ -168,13 +136,14 @@ fn last_born<D: Disk>(
 // The last file of a folder. Nothing is changed.
 fn find<D: Disk>(alloc: Global, disk: &mut D, id: u64) -> Result<Found, LogFault>
     ensures up { D.honest disk.new → IfOk result (λ f.
-        UpTo (D.seen disk.old f.number) f.end (records_of f.records.items)) }
+        UpTo (D.seen disk.old f.number) f.end.gate f.end.reach f.end.size (records_of f.records.items)) }
     ensures found { D.honest disk.new → IfOk result (λ f.
-        Finds id (D.seen disk.old) f.number f.place.first f.place.oldest f.least) }
+        Finds id (D.seen disk.old) f.number f.place.first f.place.keep f.least) }
     ensures linked { D.honest disk.new → IfOk result (λ f. AreLinked id (D.seen disk.old) f.least f.number) }
     ensures head { D.honest disk.new → IfOk result (λ f.
-        BeginsAs id f.number f.place.first f.place.before f.place.oldest (D.seen disk.old f.number)) }
-    ensures there { IfOk result (λ f. f.least ≤ f.place.oldest) }
+        BeginsAs id f.number f.place.first f.place.before f.place.keep (D.seen disk.old f.number)) }
+    ensures there { D.honest disk.new → IfOk result (λ f.
+        BeginsBy id f.least f.place.keep (D.seen disk.old f.least)) }
     ensures top { D.honest disk.new → IfOk result (λ f. IsTop (D.seen disk.old) f.number f.top) }
     ensures open { IfOk result (λ f. IsSealed (records_of f.records.items) → ⊥) }
     ensures missing { D.honest disk.new → IsErrOf result LogFault.Missing → (n : ℕ) → D.seen disk.old n ≡ [] }
@@ -219,16 +188,17 @@ pub(crate) fn open_folder<D: Disk>(alloc: Global, disk: &mut D, id: u64) -> Resu
     ensures has { D.honest disk.new → IfOk result (λ f.
         Has (records_of f.records.items) (D.seen disk.old f.number)) }
     ensures staged { D.honest disk.new → IfOk result (λ f.
-        IsStaged D.seen D.may_leave disk.new f.number f.end f.end (records_of f.records.items) []) }
+        IsStaged D.seen D.may_leave 2 disk.new f.number f.end.reach f.end.reach (records_of f.records.items) []) }
     ensures found { D.honest disk.new → IfOk result (λ f.
-        Finds id (D.seen disk.old) f.number f.place.first f.place.oldest f.least) }
+        Finds id (D.seen disk.old) f.number f.place.first f.place.keep f.least) }
     ensures below { D.honest disk.new → IfOk result (λ f.
         (m : ℕ) → m < f.number → D.seen disk.new m ≡ D.seen disk.old m) }
     ensures above { D.honest disk.new → IfOk result (λ f. (m : ℕ) → f.number < m → D.seen disk.new m ≡ []) }
     ensures linked { D.honest disk.new → IfOk result (λ f. AreLinked id (D.seen disk.old) f.least f.number) }
     ensures head { D.honest disk.new → IfOk result (λ f.
-        BeginsAs id f.number f.place.first f.place.before f.place.oldest (D.seen disk.old f.number)) }
-    ensures there { IfOk result (λ f. f.least ≤ f.place.oldest) }
+        BeginsAs id f.number f.place.first f.place.before f.place.keep (D.seen disk.old f.number)) }
+    ensures there { D.honest disk.new → IfOk result (λ f.
+        BeginsBy id f.least f.place.keep (D.seen disk.old f.least)) }
     ensures behind { D.honest disk.new → IfOk result (λ f. IsTop (D.seen disk.old) f.number f.top) }
     ensures open { IfOk result (λ f. IsSealed (records_of f.records.items) → ⊥) }
     ensures any_moment { D.honest disk.new → LeavesLog D.seen D.moment D.left_since id disk.old disk.new }

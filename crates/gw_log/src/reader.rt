@@ -15,6 +15,7 @@ pub struct Reader<D: Disk> {
     number: u64,
     at: usize,
     upto: usize,
+    is_open: bool,
 }
 
 impl<D: Disk> Model for Reader<D> {
@@ -22,18 +23,18 @@ impl<D: Disk> Model for Reader<D> {
 
     ghost Value = { ReaderState D };
 
-    ghost view = { λ r. record { disk = r.disk; number = r.number; at = r.at; upto = r.upto } };
+    ghost view = { λ r. record { disk = r.disk; number = r.number; at = r.at; upto = r.upto; is_open = r.is_open } };
 }
 
 impl<D: Disk> Reader<D> {
-    ghost use Rattle.std.specs.Prelude.{◌≡◌, ◌≤◌, drop};
+    ghost use Rattle.std.specs.Prelude.{◌≡◌, ◌≤◌, true, drop};
     ghost use Rattle.std.specs.Prelude.{IfOk, IfSome, IfNone, OnErr};
-    ghost use Rattle.gw_log.specs.File.{HasNoRecord, OnDamaged};
+    ghost use Rattle.gw_log.specs.File.{HasRecordAt, HasNoRecord, OnDamaged};
     ghost use Rattle.gw_log.specs.State.{ReadsOn};
 
     /// Reads from this offset on, where a record begins, up to another, where one ends.
     pub fn at(alloc: Global, disk: D, number: u64, at: usize, upto: usize) -> Reader<D>
-        ensures { result ≡ record { disk = disk; number = number; at = at; upto = upto } }
+        ensures { result ≡ record { disk = disk; number = number; at = at; upto = upto; is_open = true } }
     {
         Reader {
             alloc,
@@ -41,6 +42,7 @@ impl<D: Disk> Reader<D> {
             number,
             at,
             upto,
+            is_open: true,
         }
     }
 
@@ -48,6 +50,8 @@ impl<D: Disk> Reader<D> {
     pub fn next(&mut self) -> Result<Option<Vec<u8>>, LogFault>
         ensures some { D.honest self.new.disk →
             IfOk result (λ found. IfSome found (λ r. ReadsOn D.seen self.old self.new r.items)) }
+        ensures there { D.honest self.new.disk →
+            IfOk result (λ found. IfSome found (λ r. HasRecordAt self.old.at r.items (D.seen self.old.disk self.old.number))) }
         ensures none { IfOk result (λ found. IfNone found (self.old.upto ≤ self.old.at)) }
         ensures damaged { D.honest self.new.disk →
             OnDamaged result (HasNoRecord (drop self.old.at (D.seen self.old.disk self.old.number))) }
@@ -60,8 +64,9 @@ impl<D: Disk> Reader<D> {
         if self.at >= self.upto {
             return Ok(None);
         }
-        let record = record_at(self.alloc, &mut self.disk, self.number, self.at)?;
+        let (record, is_open) = record_at(self.alloc, &mut self.disk, self.number, self.at)?;
         self.at = self.at.saturating_add(BEFORE + record.len());
+        self.is_open &= is_open;
         Ok(Some(record))
     }
 
@@ -70,6 +75,13 @@ impl<D: Disk> Reader<D> {
         ensures { self.new ≡ record self.old { upto = upto } }
     {
         self.upto = upto;
+    }
+
+    /// Whether the gate of each record that was read was open. That of the last batch isn't, before another is put.
+    pub fn is_open(&self) -> bool
+        ensures { result ≡ self.now.is_open }
+    {
+        self.is_open
     }
 
     /// Where the next record begins.
@@ -89,6 +101,7 @@ impl<D: Disk> Reader<D> {
             number: _,
             at: _,
             upto: _,
+            is_open: _,
         } = self;
         disk
     }

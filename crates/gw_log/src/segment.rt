@@ -7,9 +7,10 @@ ghost use Rattle.gw_log.specs.own.Opens.{Reads};
 
 use crate::disk::{Disk, DiskFault};
 use crate::fault::LogFault;
-use crate::reading::read_records;
+use crate::place::{Place, head_of};
+use crate::reading::{End, read_records};
 use crate::steps;
-use crate::writing::spell;
+use crate::writing::{END, SHUT, spell};
 use std::alloc::Global;
 use std::marker::Model;
 
@@ -70,11 +71,11 @@ fn open_file<D: Disk>(
     alloc: Global,
     disk: &mut D,
     number: u64,
-) -> Result<(Vec<Vec<u8>>, usize), LogFault>
+) -> Result<(Vec<Vec<u8>>, End), LogFault>
     requires { Only (D.seen disk.old) (D.may_leave disk.old) }
     ensures has { D.honest disk.new → IfOk result (λ r. Has (records_of r.0.items) (D.seen disk.old number)) }
     ensures staged { D.honest disk.new → IfOk result (λ r.
-        IsStaged D.seen D.may_leave disk.new number r.1 r.1 (records_of r.0.items) []) }
+        IsStaged D.seen D.may_leave 2 disk.new number r.1.reach r.1.reach (records_of r.0.items) []) }
     ensures any_moment { D.honest disk.new → LeavesOnly D.moment D.left_since disk.old disk.new
         (KeepsRecords number (D.seen disk.old)) }
     ensures others { D.honest disk.new → OnOk result
@@ -93,12 +94,14 @@ fn open_file<D: Disk>(
 }
 
 impl<D: Disk> Segment<D> {
-    ghost use Rattle.std.specs.Prelude.{◌≡◌, ◌≢◌, ◌⊎◌, ◌+◌, ◌<◌, ◌≤◌, ◌^◌, ◌∷◌, [], true, false, ℕ, length};
+    ghost use Rattle.std.specs.Prelude.{◌≡◌, ◌≢◌, ◌⊎◌, ◌+◌, ◌<◌, ◌≤◌, ◌^◌, ◌∷◌, [], true, false, ℕ};
     ghost use Rattle.std.specs.Prelude.{IfOk, IfErr, IsErrOf, OnOk, OnErr};
     ghost use Rattle.gw_log.specs.Disk.{Changes, LeavesOnly, Only};
-    ghost use Rattle.gw_log.specs.File.{Has, HasEither, HasOrIs, AreInLimit, KeepsRecords, IsDamagedAt};
+    ghost use Rattle.gw_log.specs.File.{Has, AreInLimit, KeepsRecords, IsDamagedAt};
     ghost use Rattle.gw_log.specs.State.{Stands, Secures, LeavesFile, records_of};
     ghost use Rattle.gw_log.specs.own.Turns.{IfAlone, LeavesTurn, Ends, Turned};
+    ghost use Rattle.gw_log.specs.Opening.{BeginsAs};
+    ghost use Rattle.gw_log.specs.own.Opens.{Reads};
     ghost use Rattle.gw_log.specs.own.Steps.{LeavesBegun, Spares, LeavesRemoved};
 
     /// The records of a file, of a disk that a crash may have left. It may crash too. After `Damaged` the file is as it was.
@@ -112,7 +115,7 @@ impl<D: Disk> Segment<D> {
         ensures has { IfOk result (λ r.
             D.honest r.0.disk → Has (records_of r.1.items) (D.seen disk number)) }
         ensures stands { IfOk result (λ r.
-            D.honest r.0.disk → Stands D.seen D.may_leave r.0 (records_of r.1.items) []) }
+            D.honest r.0.disk → Stands D.seen D.may_leave r.0 (records_of r.1.items)) }
         ensures number { IfOk result (λ r. r.0.number ≡ number) }
         ensures any_moment { IfOk result (λ r. D.honest r.0.disk →
             LeavesOnly D.moment D.left_since disk r.0.disk
@@ -132,8 +135,8 @@ impl<D: Disk> Segment<D> {
                     alloc,
                     disk,
                     number,
-                    end,
-                    reach: end,
+                    end: end.reach,
+                    reach: end.reach,
                     broken: false,
                 },
                 records,
@@ -163,19 +166,19 @@ impl<D: Disk> Segment<D> {
         number: u64,
         records: &[Vec<u8>],
     ) -> Result<Segment<D>, (LogFault, D)>
-        requires durable { Only (D.seen disk) (D.may_leave disk) }
-        requires some { 1 ≤ length records.now }
+        requires { Only (D.seen disk) (D.may_leave disk) }
         ensures stands { IfOk result (λ s. D.seen disk number ≡ [] →
-            Stands D.seen D.may_leave s (records_of records.now) []) }
+            Stands D.seen D.may_leave s (records_of records.now)) }
         ensures number { IfOk result (λ s. s.number ≡ number) }
         ensures any_moment { IfOk result (λ s.
             LeavesBegun D.seen D.moment D.left_since number (records_of records.now) disk s.disk) }
         ensures others { IfOk result (λ s. (other : ℕ) → other ≢ number → D.seen s.disk other ≡ D.seen disk other) }
         ensures taken { IfErr result (λ e. e.0 ≡ LogFault.Taken → ⊥) }
         ensures back { IfOk result (λ s. D.honest s.disk → D.honest disk) }
+        ensures back_err { IfErr result (λ e. D.honest e.1 → D.honest disk) }
     {
         let mut disk = disk;
-        let bytes = match spell(alloc, records) {
+        let bytes = match spell(alloc, records, SHUT) {
             Ok(bytes) => bytes,
             Err(fault) => return Err((fault, disk)),
         };
@@ -186,52 +189,59 @@ impl<D: Disk> Segment<D> {
                 alloc,
                 disk,
                 number,
-                end: tail.len(),
+                end: 0,
                 reach: tail.len(),
                 broken: false,
             }),
         }
     }
 
-    // Begins the file of the next number with these records, and ends this one, in two calls.
+    // Begins the file of the next number with these records, and ends this one. The end counts once its gate is open.
     fn turn(&mut self, next: &[Vec<u8>], end: &[Vec<u8>]) -> Result<usize, LogFault>
         requires room { self.old.number < 2 ^ 63 }
-        requires some { 1 ≤ length next.now }
+        requires size { self.old.reach < 2 ^ 60 }
         requires end { records_of end.now ≡ [] ∷ [] }
         ensures ok { Turned D.seen D.may_leave self.old self.new (records_of next.now) result }
         ensures any_moment { LeavesTurn D.seen D.may_leave D.moment D.left_since
             self.old self.new (records_of next.now) }
-        ensures number { self.new.number ≡ self.old.number }
-        ensures full { IsErrOf result LogFault.Full → 2 ^ 60 ≤ self.old.reach }
+        ensures kept { self.new ≡ record self.old { disk = self.new.disk } }
+        ensures full { IsErrOf result LogFault.Full → ⊥ }
         ensures long { IsErrOf result LogFault.TooLong → AreInLimit (records_of next.now) → ⊥ }
         ensures back { D.honest self.new.disk → D.honest self.old.disk }
     {
-        let bytes = spell(self.alloc, next)?;
+        let bytes = spell(self.alloc, next, SHUT)?;
+        let ending = spell(self.alloc, end, END)?;
         let tail = behind_gate(&bytes);
         steps::begin(&mut self.disk, self.number + 1, tail)?;
-        self.put(end)?;
-        self.settle()?;
+        steps::put(
+            &mut self.disk,
+            self.number,
+            self.end,
+            self.reach,
+            behind_gate(&ending),
+        )?;
+        steps::settle(&mut self.disk, self.number, self.reach)?;
         Ok(tail.len())
     }
 
     /// Begins the file of the next number, which has no byte yet, with these records, ends its own, and goes on to it.
     pub(crate) fn follow(&mut self, next: &[Vec<u8>], end: &[Vec<u8>]) -> Result<(), LogFault>
         requires room { self.old.number < 2 ^ 63 }
-        requires some { 1 ≤ length next.now }
+        requires size { self.old.reach < 2 ^ 60 }
         requires end { records_of end.now ≡ [] ∷ [] }
         ensures stands { IfAlone D.seen D.may_leave self.old (λ these.
-            OnOk result (Stands D.seen D.may_leave self.new (records_of next.now) [])) }
+            OnOk result (Stands D.seen D.may_leave self.new (records_of next.now))) }
         ensures ended { Ends D.seen D.may_leave self.old self.new result }
         ensures number { OnOk result (self.new.number ≡ self.old.number + 1) }
         ensures any_moment { LeavesTurn D.seen D.may_leave D.moment D.left_since
             self.old self.new (records_of next.now) }
-        ensures full { IsErrOf result LogFault.Full → 2 ^ 60 ≤ self.old.reach }
+        ensures full { IsErrOf result LogFault.Full → ⊥ }
         ensures long { IsErrOf result LogFault.TooLong → AreInLimit (records_of next.now) → ⊥ }
         ensures back { D.honest self.new.disk → D.honest self.old.disk }
     {
         let size = self.turn(next, end)?;
         self.number += 1;
-        self.end = size;
+        self.end = 0;
         self.reach = size;
         Ok(())
     }
@@ -257,6 +267,19 @@ impl<D: Disk> Segment<D> {
         }
     }
 
+    /// What the head of a file says, which has to be of this log and of the file's own number. No file changes.
+    pub(crate) fn place_of(&mut self, id: u64, number: u64) -> Result<Place, LogFault>
+        ensures begins { D.honest self.new.disk → IfOk result (λ p.
+            BeginsAs id number p.first p.before p.keep (D.seen self.old.disk number)) }
+        ensures reads { Reads D.seen D.may_leave D.moment D.left_since D.honest self.old.disk self.new.disk }
+        ensures kept { self.new ≡ record self.old { disk = self.new.disk } }
+    {
+        if self.broken {
+            return Err(LogFault::Device);
+        }
+        head_of(self.alloc, &mut self.disk, id, number)
+    }
+
     /// Nothing is asked of it any more.
     pub(crate) fn fail(&mut self)
         ensures { self.new ≡ record self.old { broken = true } }
@@ -271,9 +294,9 @@ impl<D: Disk> Segment<D> {
         self.number
     }
 
-    /// Puts a batch behind the others, and brings it to the disk. It counts only once the next batch was put, or the segment was settled.
+    /// Puts a batch behind the others, and brings it to the disk by one sync.
     pub fn put(&mut self, batch: &[Vec<u8>]) -> Result<(), LogFault>
-        // At `Ok` all that was pending counts, whatever crash comes, and the batch is pending.
+        // At `Ok` the batch counts, whatever crash comes.
         ensures ok { Secures D.seen D.may_leave self.old self.new (records_of batch.now) result }
         ensures err { OnErr result ((self.new ≡ self.old) ⊎ (self.new.broken ≡ true)) }
         ensures number { self.new.number ≡ self.old.number }
@@ -281,8 +304,9 @@ impl<D: Disk> Segment<D> {
         ensures empty { IsErrOf result LogFault.Empty → ⊥ }
         ensures long { IsErrOf result LogFault.TooLong → AreInLimit (records_of batch.now) → ⊥ }
 
-        // A crash at any moment leaves what counted, or that with all that was pending.
-        ensures any_moment { LeavesFile D.seen D.may_leave D.moment D.left_since HasEither self.old self.new }
+        // A crash at any moment leaves what there was, or that with the batch.
+        ensures any_moment { LeavesFile D.seen D.may_leave D.moment D.left_since
+            self.old self.new (records_of batch.now) }
         ensures others { OnOk result ((other : ℕ) → other ≢ self.old.number →
             D.seen self.new.disk other ≡ D.seen self.old.disk other) }
         ensures back { D.honest self.new.disk → D.honest self.old.disk }
@@ -295,7 +319,7 @@ impl<D: Disk> Segment<D> {
         if self.reach >= MOST {
             return Err(LogFault::Full);
         }
-        let bytes = spell(self.alloc, batch)?;
+        let bytes = spell(self.alloc, batch, SHUT)?;
         let tail = behind_gate(&bytes);
         match steps::put(&mut self.disk, self.number, self.end, self.reach, tail) {
             Ok(()) => {
@@ -310,51 +334,11 @@ impl<D: Disk> Segment<D> {
         }
     }
 
-    /// Brings all that is pending to the disk, so that it counts.
-    pub fn settle(&mut self) -> Result<(), LogFault>
-        ensures ok { Secures D.seen D.may_leave self.old self.new [] result }
-        ensures err { OnErr result (self.new.broken ≡ true) }
-        ensures number { self.new.number ≡ self.old.number }
-        ensures size { self.new.reach ≡ self.old.reach }
-        ensures full { IsErrOf result LogFault.Full → ⊥ }
-        ensures long { IsErrOf result LogFault.TooLong → ⊥ }
-        ensures any_moment { LeavesFile D.seen D.may_leave D.moment D.left_since HasOrIs self.old self.new }
-        ensures others { OnOk result ((other : ℕ) → other ≢ self.old.number →
-            D.seen self.new.disk other ≡ D.seen self.old.disk other) }
-        ensures back { D.honest self.new.disk → D.honest self.old.disk }
-        ensures failed { IsErrOf result LogFault.Device →
-            (self.old.broken ≡ true) ⊎ (D.faults self.old.disk < D.faults self.new.disk) }
-    {
-        if self.broken {
-            return Err(LogFault::Device);
-        }
-        if self.end == self.reach {
-            return Ok(());
-        }
-        match steps::settle(&mut self.disk, self.number, self.end) {
-            Ok(()) => {
-                self.end = self.reach;
-                Ok(())
-            }
-            Err(fault) => {
-                self.broken = true;
-                Err(LogFault::from(fault))
-            }
-        }
-    }
-
     /// How many bytes the file has, but for the gate at its end.
     pub fn size(&self) -> usize
         ensures { result ≡ self.now.reach }
     {
         self.reach
-    }
-
-    /// How many of them count whatever crash comes.
-    pub fn settled(&self) -> usize
-        ensures { result ≡ self.now.end }
-    {
-        self.end
     }
 
     /// Gives the disk back.

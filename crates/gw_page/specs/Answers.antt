@@ -16,9 +16,9 @@ abbrev pub place_of : List ℕ → Place
 place_of path = if bytes_eq path (codes "/") then Place.Page else if bytes_eq path (codes "/metrics") then Place.Metrics
     else if bytes_eq path (codes "/health") then Place.Health else Place.Elsewhere
 
--- connected, or not for a minute at most
+-- connected, or not for a minute at most, and its first doesn't wait for longer
 abbrev pub is_near : Receiver → Bool
-is_near r = r.is_connected || nat_le r.down 60
+is_near r = (r.is_connected || nat_le r.down 60) && nat_le r.oldest 60
 
 abbrev pub is_well : Figures → Bool
 is_well f = not f.has_failed && not f.is_short && list_all is_near f.receivers.items

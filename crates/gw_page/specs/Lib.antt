@@ -1,5 +1,7 @@
 pub mod Answers
 pub mod Connections
 pub mod Escapes
+pub mod Recent
 pub mod Rows
 pub mod Samples
+pub mod Status

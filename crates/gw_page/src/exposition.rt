@@ -42,16 +42,10 @@ const PLAN: Metric = Metric {
     help: b"The plan: 0 is the one of the start, each swap adds 1.",
 };
 
-const ROUND: Metric = Metric {
-    name: b"hl7gate_rounds_total",
-    kind: COUNTER,
-    help: b"Rounds that began since the start.",
-};
-
 const ENTRIES: Metric = Metric {
     name: b"hl7gate_entries",
     kind: GAUGE,
-    help: b"Entries of the journal since the start, when a message was accepted last.",
+    help: b"Records of the log.",
 };
 
 const SHORT: Metric = Metric {
@@ -103,7 +97,6 @@ fn put_gateway(out: &mut Vec<u8>, figures: &Figures) -> Result<(), AllocError> {
     put_whole(out, &SESSIONS, figures.open)?;
     put_whole(out, &TAKEN, figures.sessions)?;
     put_whole(out, &PLAN, figures.plan)?;
-    put_whole(out, &ROUND, figures.rounds)?;
     put_whole(out, &ENTRIES, figures.entries)?;
     put_whole(out, &SHORT, u64::from(figures.is_short))
 }

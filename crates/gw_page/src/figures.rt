@@ -1,10 +1,12 @@
 //! The figures of a gateway at one moment. Nothing of a message is in them.
 
-/// A receiver: its name, whether it is connected, for how many seconds it isn't, and whether it is held.
+/// A receiver: its name and address, whether it is connected, for how many seconds it isn't, and whether it is held.
 /// `waiting` messages wait for it, the first of them for `oldest` seconds. It was sent `sent` messages, repeats included, and answered each code so often.
+/// `refused` messages are all that it refused.
 #[derive(Drop)]
 pub struct Receiver {
     pub name: Vec<u8>,
+    pub address: Vec<u8>,
     pub is_connected: bool,
     pub is_held: bool,
     pub down: u64,
@@ -14,6 +16,7 @@ pub struct Receiver {
     pub aa: u64,
     pub ae: u64,
     pub ar: u64,
+    pub refused: u64,
 }
 
 /// An answer that isn't AA: its time (UTC, YYYYMMDDHHMMSS), the session, the answer's control id, MSA-1, and the code and place of ERR.
@@ -34,13 +37,12 @@ pub struct Refused {
     pub count: u64,
 }
 
-/// The gateway: the time (UTC, YYYYMMDDHHMMSS), the number of its round and of its plan, how many messages it accepted and refused,
-/// how many connections are open and how many there were, how many entries its journal has, whether its disk is short of room,
+/// The gateway: the time (UTC, YYYYMMDDHHMMSS), the number of its plan, how many messages it accepted and refused,
+/// how many connections are open and how many there were, how many records its log has, whether its disk is short of room,
 /// whether it can't go on, its receivers, how often each code refused, and its last refusals.
 #[derive(Drop)]
 pub struct Figures {
     pub time: [u8; 14],
-    pub rounds: u64,
     pub plan: u64,
     pub accepted: u64,
     pub refused: u64,

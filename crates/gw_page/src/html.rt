@@ -81,9 +81,7 @@ fn put_summary(out: &mut Vec<u8>, alloc: Global, figures: &Figures) -> Result<()
     put(out, HEAD)?;
     put(out, b"<p class=\"note\">")?;
     put_time(out, &figures.time)?;
-    put(out, b" UTC, round ")?;
-    put_number(out, figures.rounds)?;
-    put(out, b", plan ")?;
+    put(out, b" UTC, plan ")?;
     put_number(out, figures.plan)?;
     put(out, b". This page is loaded anew each five seconds.</p>\n")?;
     put_state(out, alloc, figures)?;

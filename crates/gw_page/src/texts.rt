@@ -1,6 +1,8 @@
 //! Bytes that are written so that they mean themselves, and numbers.
 ghost use Rattle.std.specs.Prelude.{◌≡◌, ◌++◌, OnOk, decimal};
+ghost use Rattle.std.specs.Char.Escape.{escape_ascii};
 ghost use Rattle.gw_page.specs.Escapes.{escape, escaped, quote, quoted};
+ghost use Rattle.gw_page.specs.Status.{printed};
 
 use itoa::Buffer;
 use std::alloc::AllocError;
@@ -61,6 +63,26 @@ pub(crate) fn put_quoted(out: &mut Vec<u8>, text: &[u8]) -> Result<(), AllocErro
 {
     for byte in text {
         put_quote(out, *byte)?;
+    }
+    Ok(())
+}
+
+fn put_byte(out: &mut Vec<u8>, byte: u8) -> Result<(), AllocError>
+    ensures { OnOk result (out.new.items ≡ out.old.items ++ escape_ascii byte) }
+{
+    let mut rest = byte.escape_ascii();
+    'escape: while let Some(escaped) = rest.next() {
+        out.push(escaped)?;
+    }
+    Ok(())
+}
+
+/// Adds text to a terminal, or to JSON.
+pub(crate) fn put_printed(out: &mut Vec<u8>, text: &[u8]) -> Result<(), AllocError>
+    ensures { OnOk result (out.new.items ≡ out.old.items ++ printed text.now) }
+{
+    for byte in text {
+        put_byte(out, *byte)?;
     }
     Ok(())
 }

@@ -7,13 +7,13 @@ use crate::texts::{put, put_number};
 use crate::{Figures, Receiver};
 use std::alloc::{AllocError, Global};
 
-/// For how many seconds a receiver may be away.
+/// For how many seconds a receiver may be away, and its first may wait.
 const AWAY: u64 = 60;
 
 fn is_near(receiver: &Receiver) -> bool
     ensures { result ≡ is_near receiver.now }
 {
-    receiver.is_connected || receiver.down <= AWAY
+    (receiver.is_connected || receiver.down <= AWAY) && receiver.oldest <= AWAY
 }
 
 fn are_near(receivers: &[Receiver]) -> bool
@@ -27,7 +27,7 @@ fn are_near(receivers: &[Receiver]) -> bool
     true
 }
 
-/// Whether the gateway goes on, its disk has room, and each receiver is connected, or hasn't been for a minute at most.
+/// Whether the gateway goes on, its disk has room, and each receiver is connected, or hasn't been for a minute at most, and its first doesn't wait for longer.
 pub fn is_well(figures: &Figures) -> bool
     ensures { result ≡ is_well figures.now }
 {
@@ -39,8 +39,13 @@ fn put_away(out: &mut Vec<u8>, receivers: &[Receiver]) -> Result<(), AllocError>
         if !is_near(receiver) {
             put(out, b"receiver ")?;
             put(out, &receiver.name)?;
-            put(out, b" has not been connected for ")?;
-            put_number(out, receiver.down)?;
+            if receiver.is_connected || receiver.down <= AWAY {
+                put(out, b" has taken nothing for ")?;
+                put_number(out, receiver.oldest)?;
+            } else {
+                put(out, b" has not been connected for ")?;
+                put_number(out, receiver.down)?;
+            }
             put(out, b" s\n")?;
         }
     }

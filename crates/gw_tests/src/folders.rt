@@ -26,9 +26,8 @@ fn write<R: Files<File = File> + AllocGlobal + Clone + Drop>(rt: &R) -> Result<u
     };
     log.put(&batch(alloc, &[b"one"])?)?;
     log.put(&batch(alloc, &[b"two"])?)?;
-    log.begin_next(1, b"later")?;
+    log.begin_next(0, b"later")?;
     log.put(&batch(alloc, &[b"three"])?)?;
-    log.settle()?;
     Ok(log.len())
 }
 

@@ -1,7 +1,7 @@
-//! A record that is sent over a line until it is acknowledged, and an answer that waits for the store.
+//! A record that is sent over a line until it is acknowledged.
 use gw_ack::Ack;
-use gw_forward::{Barrier, Ended, ForwardFault, Outbox, Safety, StoreFault, forward};
-use gw_stream::{Failed, Reads, Sink, Writes};
+use gw_forward::{Ended, ForwardFault, Outbox, OutboxFault, forward};
+use gw_stream::{Reads, Writes};
 use std::alloc::Global;
 use std::test::Fail;
 
@@ -33,52 +33,42 @@ struct One<'r> {
 }
 
 impl Outbox for One<'_> {
-    ghost use Rattle.std.specs.Prelude.{None};
-
-    ghost taken = { λ _. None };
+    ghost use Rattle.std.specs.Prelude.{⊤};
 
     ghost count = { λ o. o.count };
+
+    ghost gives = { λ s t bytes. ⊤ };
+
+    ghost closes = { λ s t. ⊤ };
+
+    ghost breaks = { λ s t fault. ⊤ };
+
+    ghost settles = { λ s t ack taken. ⊤ };
+
+    ghost fails = { λ s t ack fault. ⊤ };
 
     fn count(&self) -> u64 {
         self.count
     }
 
-    fn next(&mut self) -> Result<Option<Vec<u8>>, StoreFault> {
+    fn next(&mut self) -> Result<Option<Vec<u8>>, OutboxFault> {
         if self.count > 0 {
             return Ok(None);
         }
         Ok(Some(Vec::from_slice(self.alloc, self.record)?))
     }
 
-    fn settle(&mut self, _bytes: &[u8], ack: Ack) -> Result<bool, StoreFault> {
+    fn settle(&mut self, ack: Ack) -> Result<bool, OutboxFault> {
         if ack != Ack::AA {
             return Ok(false);
         }
         match self.count.checked_add(1) {
-            None => Err(StoreFault::Memory),
+            None => Err(OutboxFault::Memory),
             Some(count) => {
                 self.count = count;
                 Ok(true)
             }
         }
-    }
-}
-
-/// A store that never fails, or has failed.
-#[derive(Drop)]
-struct Told {
-    is_lost: bool,
-}
-
-impl Safety for Told {
-    ghost is_lost = { λ t. t.is_lost };
-
-    fn lost(&self) -> bool {
-        self.is_lost
-    }
-
-    fn wait(&mut self) -> bool {
-        !self.is_lost
     }
 }
 
@@ -119,22 +109,5 @@ fn of_a_record_the_header_alone_is_read(rt: HostRuntime) -> Result<(), Fail> {
     let (ended, taken, written) = forwarded(rt.alloc(), NONE, ACKED);
     assert_eq!(rt; ended, Err(ForwardFault::Record { n: 0 }));
     assert!(rt; taken == 0 && written.is_empty());
-    Ok(())
-}
-
-// What a barrier lets by.
-fn let_by(alloc: Global, is_lost: bool) -> (Result<usize, Failed>, Vec<u8>) {
-    let mut written = Vec::new(alloc);
-    let mut barrier = Barrier::new(Writes::new(&mut written), Told { is_lost });
-    let answer = barrier.write(SENT);
-    (answer, written)
-}
-
-#[test]
-fn an_answer_waits_for_the_store(rt: HostRuntime) -> Result<(), Fail> {
-    let (answer, written) = let_by(rt.alloc(), false);
-    assert!(rt; answer == Ok(SENT.len()) && written.as_slice() == SENT);
-    let (answer, written) = let_by(rt.alloc(), true);
-    assert!(rt; answer == Err(Failed) && written.is_empty());
     Ok(())
 }

@@ -11,11 +11,10 @@ use std::sync::Wait;
 use std::test::Fail;
 use std::thread::{Threads, join};
 
-/// What was put, how many rows count, how often something was brought to the disk, and of the files how many there are and how many are left.
+/// What was put, how often something was brought to the disk, and of the files how many there are and how many are left.
 #[derive(Drop)]
 struct Rows {
     rows: Vec<Vec<u8>>,
-    settled: usize,
     syncs: usize,
     files: u64,
     oldest: u64,
@@ -24,7 +23,7 @@ struct Rows {
 impl Storage for Rows {
     ghost use Rattle.std.specs.Prelude.{⊤};
 
-    ghost stands = { λ s these those. ⊤ };
+    ghost stands = { λ s these. ⊤ };
 
     ghost leaves = { λ old new left. ⊤ };
 
@@ -32,8 +31,10 @@ impl Storage for Rows {
 
     ghost tells = { λ records checkpoint. ⊤ };
 
+    ghost spares = { λ records place. ⊤ };
+
     fn put(&mut self, batch: &[Vec<u8>]) -> Result<(), JournalFault> {
-        self.settle()?;
+        self.syncs = self.syncs.saturating_add(1);
         for bytes in batch {
             let Ok(row) = bytes.clone() else {
                 return Err(JournalFault::Memory);
@@ -45,14 +46,7 @@ impl Storage for Rows {
         Ok(())
     }
 
-    fn settle(&mut self) -> Result<(), JournalFault> {
-        self.settled = self.rows.len();
-        self.syncs = self.syncs.saturating_add(1);
-        Ok(())
-    }
-
-    fn begin_next(&mut self, _oldest: u64, _checkpoint: &[u8]) -> Result<(), JournalFault> {
-        self.settle()?;
+    fn begin_next(&mut self, _keep: u64, _checkpoint: &[u8]) -> Result<(), JournalFault> {
         self.files = self.files.saturating_add(1);
         Ok(())
     }
@@ -70,10 +64,10 @@ impl Storage for Rows {
     }
 
     fn tail(&self) -> (u64, usize) {
-        (self.files, self.settled)
+        (self.files, self.rows.len())
     }
 
-    ghost at_rest = { λ s these those stand. tt };
+    ghost at_rest = { λ s these stand. tt };
 
     ghost goes_on = { λ old mid new left first second. tt };
 
@@ -84,7 +78,6 @@ impl Storage for Rows {
 fn no_rows(alloc: Global) -> Rows {
     Rows {
         rows: Vec::new(alloc),
-        settled: 0,
         syncs: 0,
         files: 1,
         oldest: 1,
@@ -124,8 +117,8 @@ fn stored_by_two<J: Naming + Send + Sync, R: Threads + Wait + Abort + Sync>(
     let first = rows.rows.get(one.place() as usize).ok_or("the first row")?;
     assert!(rt; first.as_slice() == b"first".as_slice() && one.place() != other.place());
     assert!(rt; refused == Some(JournalFault::Empty));
-    // (two records take two syncs at least, one behind the other, and four at most)
-    assert!(rt; rows.settled == 2 && rows.syncs >= 2 && rows.syncs <= 4);
+    // (two records take one sync, if they are brought to the disk together, or two)
+    assert!(rt; rows.rows.len() == 2 && rows.syncs >= 1 && rows.syncs <= 2);
     Ok(())
 }
 
@@ -155,11 +148,11 @@ fn turned_once<J: Naming, R: Wait + Abort>(
     // (what was put before the next file counts, with no sync more)
     let receipt = journal.settle(rt, &ticket)?;
     let rows = journal.into_books().close(&receipt).ok_or("closes")?;
-    assert!(rt; rows.settled == 1 && rows.syncs == 2 && rows.files == 2 && rows.oldest == 2);
+    assert!(rt; rows.rows.len() == 1 && rows.syncs == 1 && rows.files == 2 && rows.oldest == 2);
     Ok(())
 }
 
-/// A job that begins the next file settles what it was given, and removes the file that is needed no more.
+/// A job that begins the next file brings what it was given to the disk, and removes the file that is needed no more.
 #[test]
 fn a_job_begins_the_next_file(rt: HostRuntime) -> Result<(), Fail> {
     turned_once::<Brand, _>(&rt, rt.alloc(), Opened::new())
@@ -173,7 +166,7 @@ fn second_alone(alloc: Global) -> Result<Folder, LogFault> {
         Ok(log) => log,
         Err((fault, _)) => return Err(fault),
     };
-    if log.begin_next(2, b"later").is_err() || log.retire() != Ok(true) {
+    if log.begin_next(0, b"later").is_err() || log.retire() != Ok(true) {
         return Err(LogFault::Device);
     }
     Ok(log.into_disk().into_calls())

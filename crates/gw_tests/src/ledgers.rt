@@ -9,17 +9,18 @@ use std::marker::Brand;
 use std::process::Abort;
 use std::test::Fail;
 
-/// How many records it has, and how many bytes its last checkpoint has.
+/// How many records it has, how many bytes its last checkpoint has, and from which place on its records are kept.
 #[derive(Drop)]
 struct Rows {
     count: usize,
     checkpoint: usize,
+    keep: u64,
 }
 
 impl Storage for Rows {
     ghost use Rattle.std.specs.Prelude.{⊤};
 
-    ghost stands = { λ s these those. ⊤ };
+    ghost stands = { λ s these. ⊤ };
 
     ghost leaves = { λ old new left. ⊤ };
 
@@ -27,17 +28,16 @@ impl Storage for Rows {
 
     ghost tells = { λ records checkpoint. ⊤ };
 
+    ghost spares = { λ records place. ⊤ };
+
     fn put(&mut self, batch: &[Vec<u8>]) -> Result<(), JournalFault> {
         self.count = self.count.saturating_add(batch.len());
         Ok(())
     }
 
-    fn settle(&mut self) -> Result<(), JournalFault> {
-        Ok(())
-    }
-
-    fn begin_next(&mut self, _oldest: u64, checkpoint: &[u8]) -> Result<(), JournalFault> {
+    fn begin_next(&mut self, keep: u64, checkpoint: &[u8]) -> Result<(), JournalFault> {
         self.checkpoint = checkpoint.len();
+        self.keep = keep;
         Ok(())
     }
 
@@ -49,11 +49,12 @@ impl Storage for Rows {
         self.count
     }
 
+    // (for the number of a file: from which place on records are kept)
     fn tail(&self) -> (u64, usize) {
-        (1, self.count)
+        (self.keep, self.count)
     }
 
-    ghost at_rest = { λ s these those stands. tt };
+    ghost at_rest = { λ s these stands. tt };
 
     ghost goes_on = { λ old mid new left one other. tt };
 
@@ -61,7 +62,7 @@ impl Storage for Rows {
 }
 
 /// Each plan routes each message to anyone.
-struct Anyone;
+pub(crate) struct Anyone;
 
 impl Rules for Anyone {
     ghost use Rattle.std.specs.Prelude.{⊤};
@@ -114,6 +115,7 @@ fn put_and_kept<J: Naming, A: Abort>(rt: &A, alloc: Global, opened: Opened) -> R
     let rows = Rows {
         count: 1,
         checkpoint: 0,
+        keep: 0,
     };
     let mut ledger = Ledger::<J, Rows, Anyone>::begin(alloc, opened, rows, 0);
     assert!(rt; is_kept(alloc, &mut ledger)?);
@@ -125,4 +127,47 @@ fn put_and_kept<J: Naming, A: Abort>(rt: &A, alloc: Global, opened: Opened) -> R
 #[test]
 fn what_is_put_is_kept(rt: HostRuntime) -> Result<(), Fail> {
     put_and_kept::<Brand, _>(&rt, rt.alloc(), Opened::new())
+}
+
+// From which places on records are kept, where the caller keeps none: before a message is accepted, and once it is left for a receiver.
+fn kept_from<J: Naming>(
+    alloc: Global,
+    ledger: &mut Ledger<J, Rows, Anyone>,
+) -> Result<(u64, u64), LedgerFault> {
+    filled(ledger)?;
+    ledger.keep_from(u64::MAX);
+    bring(alloc, ledger);
+    let (before, _) = ledger.tail();
+    let Some(look) = ledger.look() else {
+        return Err(LedgerFault::Stale);
+    };
+    let mut to = Vec::new(alloc);
+    if to.push(0).is_err() {
+        return Err(LedgerFault::Stale);
+    }
+    ledger.accept(4, &look, to, b"a message")?;
+    ledger.plan(5, b"another plan")?;
+    bring(alloc, ledger);
+    let (left, _) = ledger.tail();
+    Ok((before, left))
+}
+
+fn left_and_kept<J: Naming, A: Abort>(rt: &A, alloc: Global, opened: Opened) -> Result<(), Fail>
+    requires book { opened.seen.book ≡ J.book }
+    requires before { J.before ≡ [] }
+{
+    let rows = Rows {
+        count: 1,
+        checkpoint: 0,
+        keep: 0,
+    };
+    let mut ledger = Ledger::<J, Rows, Anyone>::begin(alloc, opened, rows, 0);
+    assert_eq!(rt; kept_from(alloc, &mut ledger)?, (3, 3));
+    Ok(())
+}
+
+/// What is left for a receiver is kept, whatever place the caller names: the message stands at place 3, and the plan behind it.
+#[test]
+fn what_is_left_is_kept(rt: HostRuntime) -> Result<(), Fail> {
+    left_and_kept::<Brand, _>(&rt, rt.alloc(), Opened::new())
 }

@@ -34,6 +34,8 @@ mod maps;
 #[cfg(test)]
 mod messages;
 #[cfg(test)]
+mod openings;
+#[cfg(test)]
 mod profiles;
 #[cfg(test)]
 mod refusals;
@@ -41,8 +43,6 @@ mod refusals;
 mod served;
 #[cfg(test)]
 mod sessions;
-#[cfg(test)]
-mod spools;
 #[cfg(test)]
 mod streams;
 #[cfg(test)]

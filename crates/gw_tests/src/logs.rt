@@ -62,15 +62,20 @@ impl Folder {
         true
     }
 
-    // What a power failure leaves, if of the writes that were not synced those of this set were done.
-    fn image(&self, set: usize) -> Result<Vec<Vec<u8>>, AllocError> {
+    // What a power failure leaves, if of the writes that were not synced those of this set were done, but for this byte of each.
+    fn image(&self, set: usize, lost: usize) -> Result<Vec<Vec<u8>>, AllocError> {
         let mut files = copied(self.alloc, &self.kept)?;
         let mut bits = set;
         for write in &self.writes {
             if bits % 2 == 1
                 && let Some(file) = files.get_mut(write.number)
             {
-                put(file, write.at, &write.bytes)?;
+                let mut bytes = Vec::from_slice(self.alloc, &write.bytes)?;
+                if let Some(byte) = bytes.get_mut(lost) {
+                    let at = write.at.saturating_add(lost);
+                    *byte = file.get(at).copied().unwrap_or(0);
+                }
+                put(file, write.at, &bytes)?;
             }
             bits /= 2;
         }
@@ -172,8 +177,7 @@ pub(crate) fn no_files(alloc: Global) -> Result<Vec<Vec<u8>>, AllocError> {
 // What two batches and their end do to a segment, until the power fails.
 fn run(segment: &mut Segment<Recorded<Folder, Brand>>, alloc: Global) -> Result<(), LogFault> {
     segment.put(&batch(alloc, &[b"one", b"two"])?)?;
-    segment.put(&batch(alloc, &[b"three"])?)?;
-    segment.settle()
+    segment.put(&batch(alloc, &[b"three"])?)
 }
 
 // The folder after this number of calls.
@@ -201,10 +205,10 @@ fn count(alloc: Global, files: &[Vec<u8>]) -> Result<usize, LogFault> {
 fn a_power_failure_leaves_whole_batches(rt: HostRuntime) -> Result<(), Fail> {
     let alloc = rt.alloc();
     let mut seen = [false; 4];
-    for calls in 0..14 {
+    for calls in 0..10 {
         let folder = after(alloc, calls)?;
-        for set in 0..4 {
-            let records = count(alloc, &folder.image(set)?)?;
+        for image in 0..400 {
+            let records = count(alloc, &folder.image(image % 4, image / 4)?)?;
             assert!(rt; records < 4 && records != 1);
             if records < 4 {
                 seen[records] = true;
@@ -224,9 +228,8 @@ pub(crate) fn two_files(alloc: Global) -> Result<Folder, LogFault> {
         Err((fault, _)) => return Err(fault),
     };
     log.put(&batch(alloc, &[b"one", b"two"])?)?;
-    log.begin_next(1, b"later")?;
+    log.begin_next(0, b"later")?;
     log.put(&batch(alloc, &[b"three"])?)?;
-    log.settle()?;
     Ok(log.into_disk().into_calls())
 }
 
@@ -259,7 +262,7 @@ fn a_record_that_rots_is_damage(rt: HostRuntime) -> Result<(), Fail> {
     }
     assert_eq!(rt;
         count(alloc, &folder.seen).err(),
-        Some(LogFault::Damaged { segment: 1, at: 82 })
+        Some(LogFault::Damaged { segment: 1, at: 90 })
     );
     Ok(())
 }
@@ -288,9 +291,8 @@ fn three_files(alloc: Global) -> Result<Vec<Vec<u8>>, LogFault> {
     if records.len() != 2 {
         return Err(LogFault::Empty);
     }
-    log.begin_next(1, b"last")?;
+    log.begin_next(0, b"last")?;
     log.put(&batch(alloc, &[b"four"])?)?;
-    log.settle()?;
     let folder = log.into_disk().into_calls();
     Ok(copied(alloc, &folder.seen)?)
 }
@@ -322,8 +324,8 @@ fn a_file_out_of_the_chain_is_damage(rt: HostRuntime) -> Result<(), Fail> {
         assert_eq!(rt; changed(alloc, 2, first), damaged(2, 0)); // a copy
         assert_eq!(rt; changed(alloc, 3, second), damaged(4, 0)); // an ended one
         assert_eq!(rt; changed(alloc, 2, third), damaged(2, 0));
-        let cut = &first[..first.len().min(82)];
-        assert_eq!(rt; changed(alloc, 1, cut), damaged(1, 82)); // cut at a record
+        let cut = &first[..first.len().min(90)];
+        assert_eq!(rt; changed(alloc, 1, cut), damaged(1, 90)); // cut at a record
     }
     Ok(())
 }
@@ -335,7 +337,7 @@ fn turned(alloc: Global, calls: usize) -> Result<Folder, LogFault> {
     match Log::open(alloc, Recorded::<Folder, Brand>::new(folder), 7) {
         Err((_, disk)) => Ok(disk.into_calls()),
         Ok((mut log, _)) => {
-            let _ended = log.begin_next(1, b"last");
+            let _ended = log.begin_next(0, b"last");
             Ok(log.into_disk().into_calls())
         }
     }
@@ -347,8 +349,35 @@ fn a_power_failure_leaves_a_log(rt: HostRuntime) -> Result<(), Fail> {
     for calls in 0..24 {
         let folder = turned(alloc, calls)?;
         for set in 0..4 {
-            assert_eq!(rt; open(alloc, &folder.image(set)?, 7), Ok(3));
+            assert_eq!(rt; open(alloc, &folder.image(set, 7)?, 7), Ok(3));
         }
+    }
+    Ok(())
+}
+
+// How many files go of a log of three files, where records from this place on are kept. Two records stand in the first, and one in the second.
+fn removed(alloc: Global, keep: u64) -> Result<usize, LogFault> {
+    let disk = Recorded::<Folder, Brand>::new(two_files(alloc)?);
+    let mut log = match Log::open(alloc, disk, 7) {
+        Ok((log, _)) => log,
+        Err((fault, _)) => return Err(fault),
+    };
+    log.begin_next(keep, b"last")?;
+    let mut count: usize = 0;
+    for _ in 0..4 {
+        if log.retire()? {
+            count = count.saturating_add(1);
+        }
+    }
+    Ok(count)
+}
+
+/// A file goes only where all its records stand below the place that is named, and the last one stays whatever is named.
+#[test]
+fn a_file_with_a_kept_record_stays(rt: HostRuntime) -> Result<(), Fail> {
+    let alloc = rt.alloc();
+    for (keep, gone) in [(0, 0), (1, 0), (2, 1), (3, 2), (9, 2)] {
+        assert_eq!(rt; removed(alloc, keep), Ok(gone));
     }
     Ok(())
 }

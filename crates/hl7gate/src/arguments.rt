@@ -31,11 +31,6 @@ const STAMP: &[(&str, &str, &str)] = &[(
 /// The options of `gateway`.
 const ON_GATEWAY: &[(&str, &str, &str)] = &[
     (
-        "workers",
-        "N",
-        "How many threads translate, from 1 to 1000 [default: 4]",
-    ),
-    (
         "connections",
         "N",
         "How many connections are open at once, from 1 to 1000 [default: 1000]",
@@ -45,7 +40,20 @@ const ON_GATEWAY: &[(&str, &str, &str)] = &[
         "ADDRESS",
         "The address of a page, metrics and health over HTTP; without a host it is on this machine alone [default: none]",
     ),
+    (
+        "take-plan",
+        "",
+        "Takes PLAN where another plan is in force in FOLDER",
+    ),
+    (
+        "keep-plan",
+        "",
+        "Goes on with the plan in force in FOLDER where PLAN is another",
+    ),
 ];
+
+/// Two options of which a call has one at most.
+const EITHER: (&str, &str) = ("take-plan", "keep-plan");
 
 /// What `check` and `translate` need.
 const ON_MAP: &[(&str, &str)] = &[
@@ -257,7 +265,11 @@ fn command<'a>(alloc: Global, form: &Form) -> Result<Command<'a>, AllocError> {
         command = command.arg(word(alloc, name, help, false))?;
     }
     for (name, value, help) in form.options {
-        command = command.arg(option(alloc, name, value, help))?;
+        let mut option = option(alloc, name, value, help);
+        if *name == EITHER.0 {
+            option = option.conflicts_with(EITHER.1)?;
+        }
+        command = command.arg(option)?;
     }
     Ok(command)
 }

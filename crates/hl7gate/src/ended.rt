@@ -12,7 +12,7 @@ pub(crate) enum Ended<'a> {
     /// The place isn't a number.
     Place,
     /// The word isn't a number from 1 to 1,000.
-    Count { name: &'static str },
+    Count { name: &'a str },
     /// The address can't be listened on.
     Unheard { address: &'a str },
     /// The file can't be opened or read.
@@ -25,8 +25,6 @@ pub(crate) enum Ended<'a> {
     Taken { path: &'a str },
     /// No gateway answers in the folder.
     Unanswered { path: &'a str },
-    /// The file of a spool is damaged at this byte.
-    Damaged { file: String, at: usize },
     /// The log of a folder can't be read, or is damaged; this is printed.
     Unlisted { said: String },
     /// Standard input isn't a message.

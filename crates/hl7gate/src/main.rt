@@ -30,24 +30,27 @@ mod sockets;
 mod stamps;
 mod streams;
 mod swaps;
+mod tell;
 mod threads;
 mod tickets;
 
 use arguments::{parse, process_words};
 use clap::ArgMatches;
 use ended::Ended;
-use gateway::{gateway, send};
+use gateway::gateway;
 use heap::keep_freed;
 use program::command;
 use report::{USAGE, print_unread_words, print_words, status_of};
 use runtime::Runtime;
 use serve::serving;
 use std::io::{IsTerminal, Read, Write};
+use std::marker::Brand;
 use std::net::{Net, TcpListener, TcpStream};
 use std::process::ExitCode;
 use std::sync::Wait;
 use std::thread::Threads;
 use streams::open_closed;
+use tell::send;
 
 /// Whether a command takes the network, or threads.
 fn is_networked(name: &str) -> bool {
@@ -75,7 +78,7 @@ fn done<
             keep_freed(rt);
             command(rt, words, &mut input, output, errors)
         }
-        Some(("gateway", words)) => gateway(rt, words),
+        Some(("gateway", words)) => gateway::<Brand, R>(rt, words),
         Some(("tell", words)) => send(rt, words, output),
         Some(("serve", words)) => serving(rt, words, input, output, errors),
         _ => Ok(USAGE),

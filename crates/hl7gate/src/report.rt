@@ -149,14 +149,6 @@ pub(crate) fn tell<E: Write>(errors: &mut E, ended: &Ended<'_>) -> u8 {
                 "no gateway answers in this folder",
             )
         }
-        Ended::Damaged { file, at } => {
-            let status = print_fault(errors, RunFault::Read);
-            let _ = writeln!(
-                errors,
-                "{file}: damaged at byte {at}; nothing was sent. Move this file away, and send again what it had"
-            );
-            status
-        }
         Ended::Unlisted { said } => {
             let status = print_fault(errors, RunFault::Read);
             let _ = writeln!(errors, "{said}");

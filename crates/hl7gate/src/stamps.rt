@@ -1,7 +1,7 @@
 //! The time stamps of answers.
 use gw_ack::Stamp;
 use gw_civil::utc_now;
-use std::time::Clock;
+use std::time::{Clock, SystemTime, UNIX_EPOCH};
 
 /// Now in UTC, or fourteen zeros where the clock gives no year from 0 to 9999.
 fn now<R: Clock>(clock: &R) -> Option<Stamp> {
@@ -21,6 +21,20 @@ pub(crate) fn time_in(digits: &[u8]) -> [u8; 14] {
     match <[u8; 14]>::try_from(digits) {
         Ok(time) => time,
         Err(_) => [b'0'; 14],
+    }
+}
+
+/// Microseconds since 1970 began, 0 where the clock can't be read.
+pub(crate) fn microseconds<R: Clock>(rt: &R) -> u64 {
+    let Ok(now) = SystemTime::now(rt) else {
+        return 0;
+    };
+    match now.duration_since(UNIX_EPOCH) {
+        Ok(since) => since
+            .as_secs()
+            .saturating_mul(1_000_000)
+            .saturating_add(u64::from(since.subsec_micros())),
+        Err(_) => 0,
     }
 }
 
@@ -48,5 +62,11 @@ impl<R: Clock> gw_run::Clock for Utc<'_, R> {
             Some(stamp) => stamp,
             None => self.start,
         }
+    }
+}
+
+impl<R: Clock> gw_gateway::Times for Utc<'_, R> {
+    fn time(&self) -> u64 {
+        microseconds(self.clock)
     }
 }

@@ -21,16 +21,16 @@ LeavesTrimmed seen may_leave moment left_since last top old new =
     Only (seen old) (may_leave old) → LeavesOnly moment left_since old new (IsTrimmed last top (seen old))
 
 -- the folder's last file, what its head says, and the least number of a file are these
-pub record IsFound (from : Origin) (head : Head) (number first oldest least : ℕ) : Type 0 where
+pub record IsFound (from : Origin) (head : Head) (number first keep least : ℕ) : Type 0 where
   pub its_number : head.number ≡ number
   pub its_first : head.first ≡ first
-  pub its_oldest : head.oldest ≡ oldest
+  pub its_keep : head.keep ≡ keep
   pub its_least : from.number ≡ least
 
 -- whatever log the folder is
-abbrev pub Finds : (id : ℕ) → Files → (number first oldest least : ℕ) → Type 0
-Finds id files number first oldest least =
-    (from : Origin) (head : Head) (records : List (List ℕ)) → IsLog id files from head records → IsFound from head number first oldest least
+abbrev pub Finds : (id : ℕ) → Files → (number first keep least : ℕ) → Type 0
+Finds id files number first keep least =
+    (from : Origin) (head : Head) (records : List (List ℕ)) → IsLog id files from head records → IsFound from head number first keep least
 
 -- of whatever log the folder is, from this file to that one, this is the last
 abbrev pub IsLastOf : (first top n : ℕ) → Files → Type 0
@@ -46,6 +46,10 @@ pub record IsTop (files : Files) (last top : ℕ) : Type 0 where
 -- the file has no head of this log and number
 abbrev pub HasNoHead : (id number : ℕ) → List ℕ → Type 0
 HasNoHead id number file = (before : ℕ) → HasHead id number before file → ⊥
+
+-- a head of the file is one of this log
+abbrev pub IsHeadedBy : (id : ℕ) → List ℕ → Type 0
+IsHeadedBy id file = (other number before : ℕ) → HasHead other number before file → other ≡ id
 
 -- the folder is no log whose files go from the first to the last
 abbrev pub IsNoLogOf : (id first last : ℕ) → Files → Type 0

@@ -148,25 +148,23 @@ fn records_refused(rt: HostRuntime) -> Result<(), Fail> {
 enum Change {
     Open,
     Put,
-    Settle,
     BeginNext,
 }
 
 impl Change {
-    // Makes the change to a log of three records. One more counts, if it is put and settled.
+    // Makes the change to a log of three records. One more counts, if it is put.
     fn make(self, alloc: Global, log: &mut Log<Recorded<Folder, Brand>>) -> Result<(), LogFault> {
         match self {
             Change::Open => Ok(()),
             Change::Put => log.put(&batch(alloc, &[b"four"])?),
-            Change::Settle => log.settle(),
-            Change::BeginNext => log.begin_next(1, b"last"),
+            Change::BeginNext => log.begin_next(0, b"last"),
         }
     }
 
     // How many records count after it.
     fn count(self) -> u64 {
         match self {
-            Change::Settle => 4,
+            Change::Put => 4,
             _ => 3,
         }
     }
@@ -190,9 +188,6 @@ fn changed(
             return Ok((Err(fault), disk.into_calls()));
         }
     };
-    if matches!(change, Change::Settle) {
-        Change::Put.make(alloc, &mut log)?;
-    }
     if !matches!(change, Change::Open) {
         refuse(alloc, growth);
     }
@@ -228,7 +223,7 @@ impl Call for Change {
 
 #[test]
 fn changes_refused(rt: HostRuntime) -> Result<(), Fail> {
-    for call in [Change::Open, Change::Put, Change::Settle, Change::BeginNext] {
+    for call in [Change::Open, Change::Put, Change::BeginNext] {
         sweep(rt.alloc(), &call)?;
     }
     Ok(())

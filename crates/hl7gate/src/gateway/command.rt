@@ -1,289 +1,285 @@
 //! The command `gateway`: its words, its folder, its threads.
-ghost use Rattle.std.specs.Thread.{IsSync};
+ghost use Rattle.std.specs.Prelude.{◌≡◌};
+ghost use Rattle.std.specs.Thread.{IsSend, IsSync};
 
 use crate::ended::Ended;
-use crate::gateway::control;
-use crate::gateway::control::{attend_all, control_path};
-use crate::gateway::folder::{Folder, Room};
+use crate::gateway::control::attend_all;
+use crate::gateway::folder::{Folder, Room, refuse_spools};
 use crate::gateway::forwarders::forward_all;
 use crate::gateway::hub::Hub;
-use crate::gateway::install::install;
-use crate::gateway::late::look_at_all;
-use crate::gateway::lobby::Lobby;
-use crate::gateway::numbers::Numbers;
+use crate::gateway::late::{look_at_all, look_at_files};
+use crate::gateway::opening::plan_of;
 use crate::gateway::page::{Pages, show_all};
-use crate::gateway::receivers::Receivers;
-use crate::gateway::rounds::rounds;
-use crate::gateway::senders::accept_all;
+use crate::gateway::plans::begin_lines;
+use crate::gateway::resend::resend_all;
+use crate::gateway::senders::{attend, next_sender};
+use crate::gateway::{control, opening};
 use crate::plans::read_plan;
 use crate::report::DONE;
 use crate::runtime::Runtime;
 use crate::serve::count_or;
-use crate::sockets::listen;
-use crate::stamps::stamp_of;
+use crate::sockets::{listen, listen_briefly};
+use crate::stamps::{microseconds, stamp_of};
 use clap::ArgMatches;
 use gw_ack::Stamp;
-use gw_gate::Gate;
+use gw_folder::RealFolder;
+use gw_gateway::{ByPlans, Office, PutFault};
+use gw_journal::{Journal, Naming, Opened, Storage, Stored};
+use gw_ledger::{Checkpoints, Ledger};
+use gw_log::Disk;
+use gw_opening::{Begun, Found};
 use gw_plan::Plan;
 use gw_stream::RunFault;
 use std::io::Eprint;
-use std::net::{Net, SocketAddr, TcpListener, TcpStream};
-use std::os::unix::net::{UnixListener, UnixStream};
+use std::marker::Brand;
+use std::net::{Net, TcpListener, TcpStream};
+use std::os::fd::AsRawFd;
+use std::os::unix::net::UnixListener;
+use std::sync::atomic::Ordering;
 use std::sync::{Arc, Wait};
 use std::thread;
 use std::thread::Threads;
 use std::time::{Clock, Duration};
 
-/// How many threads translate, and how many connections are open at once, where the words don't say.
-const WORKERS: &str = "4";
-
+/// How many connections are open at once, where the words don't say.
 const CONNECTIONS: &str = "1000";
 
 /// After how many fifths of a second the room on the disk is looked at again.
 const LOOK: u64 = 25;
 
-/// How many threads translate, and how many connections are open at most.
-#[derive(Clone, Copy)]
-struct Sizes {
-    workers: u64,
-    connections: u64,
-}
-
-/// Where senders, words and readers of the page come in.
-#[derive(Drop)]
-struct Ports {
-    senders: TcpListener,
-    control: UnixListener,
-    pages: Option<Pages>,
-}
-
-impl Ports {
-    /// Listens at the folder's socket and at the addresses of the words.
-    fn open<'a, R: Runtime + Net<Stream = TcpStream, Listener = TcpListener>>(
-        rt: &R,
-        words: &ArgMatches<'a>,
-        folder: &Folder,
-    ) -> Result<Self, Ended<'a>> {
-        let path = control_path(rt.alloc(), &folder.path)?;
-        let Ok(control) = control::listen(rt, &path) else {
-            return Err(Ended::Unwritten { file: path });
-        };
-        let senders = listen(rt, words)?;
-        let pages = Pages::listen(rt, words)?;
-        Ok(Ports {
-            senders,
-            control,
-            pages,
-        })
-    }
-}
+/// How many bytes a file of the log has at least before the next is begun.
+const LONG: usize = 67_108_864;
 
 /// Looks whether the disk has room.
-fn look_at_disk<R: Wait + Clock + Eprint>(hub: &Hub<'_, R>) {
+fn look_at_disk<J: Naming, S: Storage + Drop, R: Wait + Clock + Eprint>(hub: &Hub<'_, J, S, R>) {
     let room = hub.folder.room();
-    let is_short = room != Room::Enough;
-    if is_short != hub.is_short() {
-        let _ = if is_short {
-            eprintln!(hub.rt;
-                "the disk is short of room: messages are answered AR until 64 MB are free\n{}: free some room",
-                hub.folder.path
-            )
-        } else {
-            eprintln!(hub.rt; "the disk has room again: messages are taken")
-        };
-        hub.set_short(is_short);
+    let (is_short, is_full) = (room != Room::Enough, room == Room::Nothing);
+    let was_short = hub.is_short.swap(is_short, Ordering::SeqCst);
+    let was_full = hub.is_full.swap(is_full, Ordering::SeqCst);
+    if is_short && !was_short {
+        let _ = eprintln!(hub.rt;
+            "the disk is short of room: messages are answered AR until 64 MB are free\n{}: free some room",
+            hub.folder.path
+        );
     }
-    let is_full = room == Room::Nothing;
-    if is_full && !hub.is_full() {
+    if was_short && !is_short {
+        let _ = eprintln!(hub.rt; "the disk has room again: messages are taken");
+    }
+    if is_full && !was_full {
         let _ = eprintln!(hub.rt; "the disk is full: nothing is sent until there is some room");
     }
-    // (also for receivers that are new)
-    hub.set_full(is_full);
 }
 
-/// Looks from time to time whether the disk has room, and which receivers are late, until the gateway can't go on.
-fn watch_all<R: Wait + Clock + Eprint + AllocGlobal>(hub: &Hub<'_, R>) {
+/// Has the log of refusals go on in a new file where it is long.
+fn look_at_log<J: Naming, S: Storage + Drop, R: Runtime + Wait>(hub: &Hub<'_, J, S, R>) {
+    if let Ok(true) = hub.folder.turn_log(hub.rt) {
+        let _ = eprintln!(hub.rt;
+            "{}/refusals.log had 64 MB: it is refusals.log.1 now",
+            hub.folder.path
+        );
+    }
+}
+
+/// Looks from time to time whether the disk has room, which receivers are late, and which files nobody needs, until the gateway ends.
+fn watch_all<J: Naming, S: Storage + Drop, R: Runtime + Wait>(hub: &Hub<'_, J, S, R>) {
+    let mut keeper = None;
     for _ in hub.rt.forever() {
         look_at_disk(hub);
         look_at_all(hub);
+        keeper = look_at_files(hub, keeper);
         for _fifth in 0..LOOK {
-            if hub.is_closing() {
+            if hub.has_ended() {
                 return;
             }
+            look_at_log(hub);
             thread::sleep(hub.rt, Duration::from_millis(200));
         }
     }
 }
 
-/// Goes on with these receivers, until a plan is to be installed: the gate of the next round. An error is that it was stopped, or can't go on: that is the fault.
-fn go_on<R: Runtime + Threads + Wait + Net<Stream = TcpStream, Listener = TcpListener>>(
-    hub: &Hub<'_, R>,
-    begun: (&mut Numbers, Gate),
+/// Goes on until it is stopped, or can't go on. Each sender and each receiver has a thread.
+fn go_on<
+    J: Naming + Send + Sync,
+    S: Storage + Drop + Send + Sync,
+    R: Runtime + Threads + Wait + Net<Stream = TcpStream, Listener = TcpListener>,
+>(
+    hub: &Hub<'_, J, S, R>,
     control: &UnixListener,
+    senders: TcpListener,
     pages: Option<&Pages>,
-    workers: u64,
-) -> Result<Gate, Option<RunFault>> {
-    let (numbers, gate) = begun;
-    let mut end = Err(None);
-    // (before anything is sent)
+    most: u64,
+) {
+    listen_briefly(senders.as_raw_fd());
     look_at_disk(hub);
     thread::scope(
         thread::scope_env(),
         hub.rt,
         |scope|
-            requires { IsSync R.row }
+            requires { IsSend S.row × IsSync S.row × IsSync R.row }
         {
             let look = move ||
-                requires { IsSync R.row }
-            {
-                watch_all(hub);
-                hub.exit();
-            };
+                requires { IsSend S.row × IsSync S.row × IsSync R.row }
+            { watch_all(hub) };
             let hear = move ||
-                requires { IsSync R.row }
-            {
-                attend_all(hub, control);
-                hub.exit();
-            };
+                requires { IsSend S.row × IsSync S.row × IsSync R.row }
+            { attend_all(hub, control) };
             let show = move ||
-                requires { IsSync R.row }
+                requires { IsSend S.row × IsSync S.row × IsSync R.row }
             { show_all(hub, pages) };
-            // (the page's thread is woken below, when the round is over)
-            hub.enter(hub.spools.len().saturating_add(2));
-            let mut has_all = scope.spawn(look).is_ok()
+            let again = move ||
+                requires { IsSend S.row × IsSync S.row × IsSync R.row }
+            { resend_all(hub) };
+            let has_all = scope.spawn(look).is_ok()
                 && scope.spawn(hear).is_ok()
-                && scope.spawn(show).is_ok();
-            for number in 0..hub.spools.len() {
-                let send = move ||
-                    requires { IsSync R.row }
-                {
-                    forward_all(hub, number);
-                    hub.exit();
-                };
-                has_all = has_all && scope.spawn(send).is_ok();
-            }
+                && scope.spawn(show).is_ok()
+                && scope.spawn(again).is_ok();
             if !has_all {
                 hub.fail(RunFault::Memory);
             }
-            end = rounds(hub, gate, numbers, workers);
-            hub.end_sending();
-            wake_control(hub.rt, &hub.folder.path);
-            wake(hub.rt, address_of(pages));
+            for _ in hub.rt.forever() {
+                if hub.has_ended() {
+                    break;
+                }
+                if let Some(line) = hub.lines.next_new(hub.rt) {
+                    let send = move ||
+                        requires { IsSend S.row × IsSync S.row × IsSync R.row }
+                    { forward_all(hub, line) };
+                    if scope.spawn(send).is_err() {
+                        hub.fail(RunFault::Memory);
+                    }
+                    continue;
+                }
+                if let Some(sender) = next_sender(hub, &senders, most) {
+                    let attend_one = move ||
+                        requires { IsSend S.row × IsSync S.row × IsSync R.row }
+                    { attend(hub, sender) };
+                    if scope.spawn(attend_one).is_err() {
+                        let _ = eprintln!(hub.rt;
+                            "no thread can be started for a connection: it is closed"
+                        );
+                        hub.leave();
+                    }
+                }
+            }
+            drop(senders);
         },
     );
-    end
 }
 
-/// Goes on under one plan after the other, until it is stopped, or can't go on: that is the fault.
-fn go_on_for_ever<R: Runtime + Threads + Wait + Net<Stream = TcpStream, Listener = TcpListener>>(
-    hub: Hub<'_, R>,
-    begun: (Numbers, Gate),
-    control: &UnixListener,
-    pages: Option<&Pages>,
-    workers: u64,
-) -> Option<RunFault> {
-    let rt = hub.rt;
-    let mut hub = hub;
-    let (mut numbers, mut gate) = begun;
-    for _ in rt.forever() {
-        match go_on(&hub, (&mut numbers, gate), control, pages, workers) {
-            Err(fault) => return fault,
-            Ok(last) => match install(&mut hub, last) {
-                Ok(next) => gate = next,
-                Err(fault) => return Some(fault),
-            },
+/// What is counted of receivers before the start is printed: what waits, and what was refused.
+fn print_waiting<J: Naming, S: Storage + Drop, R: Wait + Eprint>(hub: &Hub<'_, J, S, R>) {
+    let office = hub.journal.lock(hub.rt);
+    for receiver in office.ledger.state().receivers() {
+        let (left, refused) = (receiver.left(), receiver.refused());
+        if left > 0 {
+            let name = receiver.name().escape_ascii();
+            let _ = eprintln!(hub.rt;
+                "receiver {name}: {left} messages wait in {}",
+                hub.folder.path
+            );
+        }
+        if refused > 0 {
+            let name = receiver.name().escape_ascii();
+            let _ = eprintln!(hub.rt; "receiver {name} has refused {refused} messages so far");
         }
     }
-    unreachable!()
 }
 
-/// Wakes the thread that hears words.
-fn wake_control<R: Net + AllocGlobal>(rt: &R, folder: &str) {
-    if let Ok(path) = control_path(rt.alloc(), folder) {
-        let _ = UnixStream::connect(rt, path.as_str());
-    }
-}
-
-/// Where the page is.
-fn address_of(pages: Option<&Pages>) -> Option<SocketAddr> {
-    pages?.address()
-}
-
-/// Wakes the thread that accepts connections at an address.
-fn wake<R: Net<Stream = TcpStream, Listener = TcpListener>>(rt: &R, at: Option<SocketAddr>) {
-    if let Some(at) = at {
-        let _ = TcpStream::connect_timeout(rt, &at, Duration::from_secs(1));
-    }
-}
-
-/// Takes senders in, while it goes on.
-fn take_in<R: Runtime + Threads + Wait + Net<Stream = TcpStream, Listener = TcpListener>>(
-    hub: Hub<'_, R>,
-    begun: (Numbers, Gate),
-    ports: Ports,
-    sizes: Sizes,
-) -> Option<RunFault> {
-    let (rt, lobby) = (hub.rt, hub.lobby);
-    let Ports {
-        senders,
-        control,
-        pages,
-    } = ports;
-    let at = senders.local_addr().ok();
-    let mut end = None;
-    thread::scope(
-        thread::scope_env(),
-        rt,
-        |scope|
-            requires { IsSync R.row }
-        {
-            let accept = move ||
-                requires { IsSync R.row }
-            { accept_all(rt, lobby, senders, sizes.connections) };
-            if scope.spawn(accept).is_err() {
-                hub.fail(RunFault::Memory);
-            }
-            end = go_on_for_ever(hub, begun, &control, pages.as_ref(), sizes.workers);
-            lobby.close();
-            wake(rt, at);
-        },
-    );
-    end
-}
-
-/// Keeps what it accepts in this folder, under a plan, at ADDRESS.
-fn keep_in<'a, R: Runtime + Threads + Wait + Net<Stream = TcpStream, Listener = TcpListener>>(
-    rt: &R,
-    words: &ArgMatches<'a>,
-    folder: &Folder,
+/// What the threads share, once the plan is in force, and on the disk.
+fn begin<'f, 'a, J: Naming, S: Storage + Drop, R: Runtime + Wait>(
+    rt: &'f R,
+    ledger: Ledger<J, S, ByPlans>,
     plan: Arc<Plan>,
     start: Stamp,
-    sizes: Sizes,
-) -> Result<Option<RunFault>, Ended<'a>> {
-    let receivers = Receivers::open(rt, folder, &plan)?;
-    let ports = Ports::open(rt, words, folder)?;
-    let lobby = Lobby::new(rt.alloc());
-    let hub = Hub::new(rt, rt.alloc(), start, folder, &lobby, receivers)?;
-    let begun = Numbers::open(rt, folder, plan)?;
-    Ok(take_in(hub, begun, ports, sizes))
+    folder: &'f Folder,
+) -> Result<Hub<'f, J, S, R>, Ended<'a>> {
+    let alloc = rt.alloc();
+    let file = String::from_str(alloc, &folder.path)?;
+    let begun = Office::begin(alloc, ledger, microseconds(rt), plan.clone()?);
+    let (office, ticket) = match begun {
+        Ok(begun) => begun,
+        Err(PutFault::Memory) => return Err(Ended::Run(RunFault::Memory)),
+        Err(_) => return Err(Ended::Unwritten { file }),
+    };
+    let hub = Hub::new(rt, alloc, start, folder, Journal::new(alloc, office))?;
+    if hub.journal.settle(rt, &ticket).is_err() {
+        return Err(Ended::Unwritten { file });
+    }
+    hub.plans.keep(rt, plan)?;
+    Ok(hub)
+}
+
+/// Keeps what it accepts in the log of a ledger, and answers the status.
+fn keep<
+    'a,
+    J: Naming + Send + Sync,
+    D: Disk + Drop + Send + Sync,
+    R: Runtime + Threads + Wait + Net<Stream = TcpStream, Listener = TcpListener>,
+>(
+    rt: &R,
+    words: &ArgMatches<'a>,
+    most: u64,
+    start: Stamp,
+    plan: Arc<Plan>,
+    ledger: Ledger<J, Stored<Checkpoints, D>, ByPlans>,
+) -> Result<u8, Ended<'a>> {
+    let path = words.get_str("FOLDER").unwrap_or("");
+    let folder = Folder::open(rt, path)?;
+    let hub = begin(rt, ledger, plan, start, &folder)?;
+    print_waiting(&hub);
+    begin_lines(&hub)?;
+    let control = control::listen(rt, path)?;
+    let senders = listen(rt, words)?;
+    let pages = Pages::listen(rt, words)?;
+    go_on(&hub, &control, senders, pages.as_ref(), most);
+    let Some(fault) = hub.fault() else {
+        return Ok(DONE);
+    };
+    if fault == RunFault::Write {
+        let _ = eprintln!(rt;
+            "{path}: the log can't be written any more: look at its disk, and whether it is where it was"
+        );
+    }
+    Err(Ended::Run(fault))
+}
+
+/// The same of a log that was opened.
+fn run<
+    'a,
+    J: Naming + Send + Sync,
+    F: Found<ByPlans> + Send + Sync,
+    R: Runtime + Threads + Wait + Net<Stream = TcpStream, Listener = TcpListener>,
+>(
+    rt: &R,
+    words: &ArgMatches<'a>,
+    most: u64,
+    start: Stamp,
+    plan: Arc<Plan>,
+    opened: Opened,
+    begun: Begun<F, ByPlans, RealFolder<'_, R>>,
+) -> Result<u8, Ended<'a>>
+    requires book { opened.seen.book ≡ J.book }
+    requires before { J.before ≡ begun.before }
+{
+    let ledger = begun.into_ledger::<J>(rt.alloc(), opened, LONG);
+    keep(rt, words, most, start, plan, ledger)
 }
 
 /// Keeps what it accepts in FOLDER, under the plan of the file PLAN, at ADDRESS, and answers the status.
+/// It does so for each log that the folder may have.
 pub(crate) fn gateway<
     'a,
+    F: Found<ByPlans> + Send + Sync,
     R: Runtime + Threads + Wait + Net<Stream = TcpStream, Listener = TcpListener>,
 >(rt: &R, words: &ArgMatches<'a>) -> Result<u8, Ended<'a>> {
-    let sizes = Sizes {
-        workers: count_or(words, "workers", WORKERS)?,
-        connections: count_or(words, "connections", CONNECTIONS)?,
-    };
+    let most = count_or(words, "connections", CONNECTIONS)?;
     let Some(start) = stamp_of(rt, None) else {
         return Err(Ended::Stamp);
     };
-    let plan = Arc::new(rt.alloc(), read_plan(rt, words)?)?;
-    let folder = Folder::open(rt, words.get_str("FOLDER").unwrap_or(""))?;
-    match keep_in(rt, words, &folder, plan, start, sizes)? {
-        None => Ok(DONE),
-        Some(fault) => Err(Ended::Run(fault)),
-    }
+    let plan = read_plan(rt, words)?;
+    let path = words.get_str("FOLDER").unwrap_or("");
+    refuse_spools(rt, path)?;
+    let begun = opening::open::<F, R>(rt, path)?;
+    let plan = plan_of(rt, words, plan, begun.state(), begun.tail())?;
+    run::<Brand, F, R>(rt, words, most, start, plan, Opened::new(), begun)
 }

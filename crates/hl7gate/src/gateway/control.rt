@@ -1,13 +1,17 @@
 //! Words to a running gateway, over the socket FOLDER/control: a line comes, an answer goes back, and the connection ends.
+use crate::ended::Ended;
 use crate::gateway::hub::Hub;
-use crate::gateway::install::{Ready, ready_or_lines};
-use crate::gateway::resend::resend;
-use crate::gateway::status;
+use crate::gateway::page::state;
+use crate::gateway::plans::take_file;
+use crate::gateway::resend::Ask;
 use crate::runtime::Runtime;
+use crate::sockets::{listen_briefly, pause};
+use gw_journal::{Naming, Storage};
 use std::alloc::{AllocError, Global};
 use std::fs::{File, Permissions};
 use std::io::{ErrorKind, Read, Write};
 use std::net::Net;
+use std::os::fd::AsRawFd;
 use std::os::unix::fs::PermissionsExt;
 use std::os::unix::net::{UnixListener, UnixStream};
 use std::rt::Files;
@@ -30,8 +34,8 @@ pub(crate) fn control_path(alloc: Global, folder: &str) -> Result<String, AllocE
     format!(in alloc; "{folder}/control")
 }
 
-/// The listener at this path. A socket that another gateway left is taken away: the folder is locked.
-pub(crate) fn listen<R: Files<File = File> + Net>(rt: &R, path: &str) -> io::Result<UnixListener> {
+/// Listens at a folder's socket. One that another gateway left is taken away: the folder is locked.
+fn bind<R: Files<File = File> + Net>(rt: &R, path: &str) -> io::Result<UnixListener> {
     match fs::remove_file(rt, path) {
         Err(error) if error.kind() != ErrorKind::NotFound => return Err(error),
         _ => {}
@@ -41,42 +45,68 @@ pub(crate) fn listen<R: Files<File = File> + Net>(rt: &R, path: &str) -> io::Res
     Ok(listener)
 }
 
-/// Holds a receiver's messages back, or sends them on.
-fn hold<R: Wait + AllocGlobal>(
-    hub: &Hub<'_, R>,
-    name: &str,
-    is_held: bool,
-) -> Result<String, AllocError> {
-    let alloc = hub.rt.alloc();
-    let Some(number) = hub.number_of(name) else {
-        return format!(in alloc; "refused: no receiver of the plan has this name\n");
-    };
-    if let Some(spool) = hub.spools.get(number) {
-        spool.hold(hub.rt, is_held);
-    }
-    if is_held {
-        format!(in alloc; "held: {name} is sent nothing until `go {name}`, or a restart\n")
-    } else {
-        format!(in alloc; "goes: {name} is sent what waits\n")
+/// The listener at a folder's socket.
+pub(crate) fn listen<'a, R: Files<File = File> + Net + AllocGlobal>(
+    rt: &R,
+    folder: &str,
+) -> Result<UnixListener, Ended<'a>> {
+    let path = control_path(rt.alloc(), folder)?;
+    match bind(rt, &path) {
+        Ok(listener) => Ok(listener),
+        Err(_) => Err(Ended::Unwritten { file: path }),
     }
 }
 
-/// The answer to a line.
-fn answer<R: Runtime + Wait>(hub: &Hub<'_, R>, line: &str) -> Result<String, AllocError> {
+/// Holds a receiver's messages back, or sends them on.
+fn tell_line<J: Naming, S: Storage + Drop, R: Runtime + Wait>(
+    hub: &Hub<'_, J, S, R>,
+    word: &str,
+    name: &str,
+) -> Result<String, AllocError> {
     let alloc = hub.rt.alloc();
-    let (word, rest) = line.split_once(' ').unwrap_or((line, ""));
+    match (word, hub.lines.named(hub.rt, name.as_bytes())) {
+        ("hold", Some(line)) => {
+            line.hold(hub.rt, true);
+            format!(in alloc; "held: {name} is sent nothing until `go {name}`, or a restart\n")
+        }
+        ("go", Some(line)) => {
+            line.hold(hub.rt, false);
+            format!(in alloc; "goes: {name} is sent what waits\n")
+        }
+        // (where there is such a receiver, `resend` is answered by its own thread)
+        _ => format!(in alloc; "refused: no receiver of the plan has this name\n"),
+    }
+}
+
+/// The answer to a word that isn't `status`.
+fn answer_word<J: Naming, S: Storage + Drop, R: Runtime + Wait>(
+    hub: &Hub<'_, J, S, R>,
+    word: &str,
+    rest: &str,
+) -> Result<String, AllocError> {
+    let alloc = hub.rt.alloc();
     match (word, rest) {
-        ("status", "") => status::text(hub),
-        ("status", "--json") => status::json(hub),
+        ("install", path) if !path.is_empty() => take_file(hub, path, true),
+        ("swap", path) if !path.is_empty() => take_file(hub, path, false),
         ("stop", "") => {
             hub.stop();
             format!(in alloc; "stops: what waits is sent by the next start\n")
         }
-        ("swap", path) if !path.is_empty() => hub.ask_swap(path),
-        ("hold", name) if !name.is_empty() => hold(hub, name, true),
-        ("go", name) if !name.is_empty() => hold(hub, name, false),
-        ("resend", name) if !name.is_empty() => resend(hub, name),
+        ("hold" | "go" | "resend", name) if !name.is_empty() => tell_line(hub, word, name),
         _ => format!(in alloc; "refused: the words are: {WORDS}\n"),
+    }
+}
+
+/// The answer to a line.
+fn answer<J: Naming, S: Storage + Drop, R: Runtime + Wait>(
+    hub: &Hub<'_, J, S, R>,
+    line: &str,
+) -> Result<Vec<u8>, AllocError> {
+    let (word, rest) = line.split_once(' ').unwrap_or((line, ""));
+    match (word, rest) {
+        ("status", "") => state(hub, false),
+        ("status", "--json") => state(hub, true),
+        _ => Ok(answer_word(hub, word, rest)?.into_bytes()),
     }
 }
 
@@ -90,46 +120,41 @@ fn read_line<R: AllocGlobal>(rt: &R, stream: &UnixStream) -> io::Result<String> 
     }
 }
 
-/// Has the plan of this file installed: who asked is answered when it is. Where it can't be, the answer says why.
-fn ask_install<R: Runtime + Wait>(
-    hub: &Hub<'_, R>,
-    path: &str,
+/// Answers one connection, or has it wait for the thread that answers `resend`.
+fn attend<J: Naming, S: Storage + Drop, R: Runtime + Wait>(
+    hub: &Hub<'_, J, S, R>,
     stream: UnixStream,
 ) -> io::Result<()> {
-    match ready_or_lines(hub, path) {
-        Ok((text, receivers)) => {
-            hub.begin_install(Ready::new(text, receivers, stream));
-            Ok(())
-        }
-        Err(lines) => {
-            let mut writer = stream;
-            writer.write_all(b"refused\n")?;
-            writer.write_all(&lines)
-        }
-    }
-}
-
-/// Answers one connection.
-fn attend<R: Runtime + Wait>(hub: &Hub<'_, R>, stream: UnixStream) -> io::Result<()> {
     stream.set_read_timeout(Some(Duration::from_secs(PATIENCE)))?;
     stream.set_write_timeout(Some(Duration::from_secs(PATIENCE)))?;
     let line = read_line(hub.rt, &stream)?;
     let line = line.trim_end();
-    if let Some(path) = line.strip_prefix("install ") {
-        return ask_install(hub, path, stream);
+    if let Some(("resend", name)) = line.split_once(' ')
+        && let Some(line) = hub.lines.named(hub.rt, name.as_bytes())
+    {
+        hub.asks.put(hub.rt, Ask { line, stream })?;
+        return Ok(());
     }
     let text = answer(hub, line)?;
     let mut writer = stream;
-    writer.write_all(text.as_bytes())
+    writer.write_all(&text)
 }
 
-/// Answers one connection after another, until the gateway ends, or its receivers change.
-pub(crate) fn attend_all<R: Runtime + Wait>(hub: &Hub<'_, R>, listener: &UnixListener) {
+/// Answers one connection after another, until the gateway ends.
+pub(crate) fn attend_all<J: Naming, S: Storage + Drop, R: Runtime + Wait>(
+    hub: &Hub<'_, J, S, R>,
+    listener: &UnixListener,
+) {
+    listen_briefly(listener.as_raw_fd());
     for _ in hub.rt.forever() {
-        if let Ok((stream, _peer)) = listener.accept() {
-            let _ = attend(hub, stream);
+        match listener.accept() {
+            Ok((stream, _peer)) => {
+                let _ = attend(hub, stream);
+            }
+            Err(error) if error.kind() == ErrorKind::WouldBlock => {}
+            Err(_) => pause(hub.rt),
         }
-        if hub.is_closing() {
+        if hub.has_ended() {
             return;
         }
     }

@@ -1,45 +1,42 @@
-//! The folder of a gateway, which one process at a time has.
+//! The folder of a gateway: its log, and what stands beside it.
 use crate::ended::Ended;
 use gw_stream::RunFault;
 use std::alloc::Global;
-use std::fs::{File, OpenOptions};
+use std::fs::{File, OpenOptions, metadata};
 use std::io::ErrorKind;
 use std::os::unix::fs::{FileExt, OpenOptionsExt};
 use std::rt::Files;
+use std::sync::{Mutex, Wait};
 use std::{fs, io};
 
 /// How many bytes of the disk are kept free for what was accepted.
 const RESERVE: u64 = 67_108_864;
 
-/// How many of them are written at once.
+/// From how many bytes on the log of refusals goes on in a new file.
+const LONG: u64 = 67_108_864;
+
+/// How many bytes are written at once.
 const PIECE: u64 = 65_536;
 
 /// What the folder's page says.
 const PAGE: &[u8] =
-    b"What a gateway for HL7 messages accepted and has not delivered yet (hl7gate gateway).
+    b"The log of a gateway for HL7 messages (hl7gate gateway): what it accepted, and what its receivers took.
 
-spool/NAME/N       messages that wait for the receiver NAME, in order; the files are numbered. Don't edit them:
-                   a changed byte is damage, and the gateway then sends nothing of that file
-refused/NAME.mllp  messages that NAME answered AE, or AR three times, as framed messages; the gateway only adds to it
-refused/NAME.resent  the same while they are put into the spool again (hl7gate tell FOLDER resend NAME)
-refusals.log       a line for each message that was answered AE or AR: when, session, number, control id, code and place;
-                   and for each receiver whose first message waits for more than a minute
-numbers            numbers of messages and entries up to which all may have been given: those of the next start are above
-reserve            room on the disk for what was accepted, used when the disk is full
-lock               locked by the gateway that works here
+N.segment     the log, in numbered files; `hl7gate log FOLDER` lists it. Don't edit them: a changed byte is damage
+refusals.log  a line for each message that was answered AE or AR, and for each receiver whose first waits for more than a minute.
+              At 64 MB it is refusals.log.1, and a new one is begun
+reserve       room on the disk for what was accepted, used when the disk is full
+control       the socket of `hl7gate tell FOLDER`
 
 These files hold patients' data. Copy or move them only while no gateway works here.
 ";
 
-/// The folder: its path, whether it was made ready just now, the room that is kept free, the log of refusals, and the file that locks it.
+/// The folder: its path, the room that is kept free, and the log of refusals.
 #[derive(Drop)]
 pub(crate) struct Folder {
     pub(crate) path: String,
-    pub(crate) is_new: bool,
-    pub(crate) reserve: File,
-    pub(crate) log: File,
-    // (the lock lasts as long as its file is open)
-    lock: File,
+    reserve: File,
+    log: Mutex<File>,
 }
 
 /// What came of a call on a file of the folder, or that the file can't be made or written.
@@ -58,50 +55,22 @@ pub(crate) fn or_unwritten<'a, T>(
     }
 }
 
-/// A file that is read and written, and that its owner alone may read. It is made where it isn't there.
-pub(crate) fn open_private<R: Files<File = File>>(rt: &R, path: &str) -> io::Result<File> {
-    let mut options = OpenOptions::new();
-    options.read(true).write(true).create(true).mode(0o600);
-    options.open(rt, path)
-}
-
-/// A file that is added to, and that its owner alone may read.
-fn open_log<R: Files<File = File>>(rt: &R, path: &str) -> io::Result<File> {
-    let mut options = OpenOptions::new();
-    options.append(true).create(true).mode(0o600);
-    options.open(rt, path)
-}
-
-/// Makes a folder, unless it is there. Says whether it was made.
-pub(crate) fn make_folder<R: Files>(rt: &R, path: &str) -> io::Result<bool> {
-    match fs::create_dir(rt, path) {
-        Ok(()) => Ok(true),
-        Err(error) if error.kind() == ErrorKind::AlreadyExists => Ok(false),
-        Err(error) => Err(error),
-    }
-}
-
-/// Writes a file of a folder anew. After a crash at any moment the file is the one before, or this one, whole.
-pub(crate) fn write_file<R: Files<File = File> + AllocGlobal>(
+/// A file that its owner alone may read, made where it isn't there: one that is added to, or that is read and written.
+fn open_file<'a, R: Files<File = File> + AllocGlobal>(
     rt: &R,
     folder: &str,
     name: &str,
-    bytes: &[u8],
-) -> io::Result<()> {
+    is_added: bool,
+) -> Result<File, Ended<'a>> {
     let path = format!(in rt.alloc(); "{folder}/{name}")?;
-    let next = format!(in rt.alloc(); "{folder}/{name}.new")?;
-    let file = open_private(rt, &next)?;
-    file.set_len(0)?;
-    file.write_all_at(bytes, 0)?;
-    file.sync_all()?;
-    drop(file);
-    fs::rename(rt, next.as_str(), path.as_str())?;
-    sync_folder(rt, folder)
-}
-
-/// Brings to the disk which files a folder has.
-pub(crate) fn sync_folder<R: Files<File = File>>(rt: &R, path: &str) -> io::Result<()> {
-    File::open(rt, path)?.sync_all()
+    let mut options = OpenOptions::new();
+    options.create(true).mode(0o600);
+    if is_added {
+        options.append(true);
+    } else {
+        options.read(true).write(true);
+    }
+    or_unwritten(rt.alloc(), &path, options.open(rt, path.as_str()))
 }
 
 /// What room the disk has.
@@ -135,61 +104,60 @@ fn fill(file: &File) -> Room {
     }
 }
 
+/// Refuses a folder of an earlier gateway, which kept a spool for each receiver.
+pub(crate) fn refuse_spools<'a, R: Files<File = File> + AllocGlobal>(
+    rt: &R,
+    path: &str,
+) -> Result<(), Ended<'a>> {
+    let spools = format!(in rt.alloc(); "{path}/spool")?;
+    if metadata(rt, spools.as_str()).is_err() {
+        return Ok(());
+    }
+    let said = format!(in rt.alloc();
+        "{path} was made by an earlier hl7gate: let that one deliver what waits, and begin with a new folder"
+    )?;
+    Err(Ended::Unlisted { said })
+}
+
 impl Folder {
-    /// Locks the folder at this path, which has to be there, and makes what it lacks.
+    /// The folder at this path, which is locked, with what it lacks made.
     pub(crate) fn open<'a, R: Files<File = File> + AllocGlobal>(
         rt: &R,
         path: &'a str,
     ) -> Result<Self, Ended<'a>> {
         let alloc = rt.alloc();
-        let name = format!(in alloc; "{path}/lock")?;
-        let lock = or_unwritten(alloc, &name, open_private(rt, &name))?;
-        if lock.try_lock().is_err() {
-            return Err(Ended::Taken { path });
-        }
-        let is_new = Self::make(rt, path)?;
-        let name = format!(in alloc; "{path}/reserve")?;
-        let reserve = or_unwritten(alloc, &name, open_private(rt, &name))?;
-        let name = format!(in alloc; "{path}/refusals.log")?;
-        let log = or_unwritten(alloc, &name, open_log(rt, &name))?;
-        let path = String::from_str(alloc, path)?;
-        let folder = Folder {
-            path,
-            is_new,
-            reserve,
-            log,
-            lock,
-        };
-        // (an earlier gateway may have been killed before it brought to the disk what it made)
-        or_unwritten(alloc, &folder.path, sync_folder(rt, &folder.path))?;
-        or_unwritten(alloc, &folder.path, folder.sync(rt, "refused"))?;
-        Ok(folder)
-    }
-
-    /// Brings to the disk which files the folder of this name in it has.
-    pub(crate) fn sync<R: Files<File = File> + AllocGlobal>(
-        &self,
-        rt: &R,
-        name: &str,
-    ) -> io::Result<()> {
-        let path = format!(in rt.alloc(); "{}/{name}", self.path)?;
-        sync_folder(rt, &path)
-    }
-
-    // Makes the folders and the page. Says whether the folder of spools was made.
-    fn make<'a, R: Files<File = File> + AllocGlobal>(
-        rt: &R,
-        path: &str,
-    ) -> Result<bool, Ended<'a>> {
-        let alloc = rt.alloc();
-        let mut is_new = false;
-        for name in ["refused", "spool"] {
-            let folder = format!(in alloc; "{path}/{name}")?;
-            is_new = or_unwritten(alloc, &folder, make_folder(rt, &folder))?;
-        }
         let page = format!(in alloc; "{path}/README")?;
         or_unwritten(alloc, &page, fs::write(rt, page.as_str(), PAGE))?;
-        Ok(is_new)
+        let reserve = open_file(rt, path, "reserve", false)?;
+        let log = open_file(rt, path, "refusals.log", true)?;
+        Ok(Folder {
+            path: String::from_str(alloc, path)?,
+            reserve,
+            log: Mutex::new(log),
+        })
+    }
+
+    /// Adds a line to the log of refusals.
+    pub(crate) fn add<R: Wait>(&self, rt: &R, line: &[u8]) {
+        // (the file is opened to be added to)
+        let _ = self.log.lock(rt).write_all_at(line, 0);
+    }
+
+    /// Begins a new log of refusals where the one is long. That is `refusals.log.1` then.
+    pub(crate) fn turn_log<'a, R: Wait + Files<File = File> + AllocGlobal>(
+        &self,
+        rt: &R,
+    ) -> Result<bool, Ended<'a>> {
+        match self.log.lock(rt).metadata() {
+            Ok(of) if of.len() >= LONG => {}
+            _ => return Ok(false),
+        }
+        let path = format!(in rt.alloc(); "{}/refusals.log", self.path)?;
+        let long = format!(in rt.alloc(); "{path}.1")?;
+        let is_moved = fs::rename(rt, path.as_str(), long.as_str()).is_ok();
+        let log = open_file(rt, &self.path, "refusals.log", true)?;
+        *self.log.lock(rt) = log;
+        Ok(is_moved)
     }
 
     /// What room the disk has. Where the reserve was used it is filled again, if there is room for it.

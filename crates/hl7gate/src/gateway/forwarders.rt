@@ -1,70 +1,178 @@
-//! Forwarders: each empties one receiver's spool over a connection that is made anew whenever it ends.
-use crate::gateway::hub::{Destination, Hub};
+//! Forwarders: each sends one receiver what is due to it, over a connection that is made anew whenever it ends.
+ghost use Rattle.std.specs.Prelude.{◌≡◌, false};
+
+use crate::gateway::hub::Hub;
+use crate::gateway::lines::Line;
 use crate::gateway::links::{Answers, Records, connect};
-use crate::gateway::outgoing::{Emptying, Outgoing};
-use crate::gateway::refused::Refused;
 use crate::runtime::Runtime;
-use gw_forward::{Ended, ForwardFault, Outbox, StoreFault, forward};
-use gw_stream::{Reads, RunFault, Writes};
+use crate::sockets::is_ended;
+use crate::stamps::Utc;
+use gw_ack::Ack;
+use gw_delivery::{Line as Forwarded, PageFault, Pending, forward_due};
+use gw_folder::FolderView;
+use gw_forward::{Ended, ForwardFault, Outbox, OutboxFault};
+use gw_journal::{Naming, Storage};
+use gw_stream::{Reads, RunFault, Sink, Source, Writes};
+use std::alloc::{AllocError, Global};
 use std::cell::Cell;
+use std::io::Eprint;
 use std::net::{Net, TcpListener, TcpStream};
-use std::sync::Wait;
+use std::sync::atomic::Ordering;
+use std::sync::{Arc, Wait};
 use std::thread;
-use std::time::Duration;
+use std::time::{Clock, Duration};
 
 /// The most seconds between two tries.
 const LONGEST: u64 = 60;
 
-/// What comes after a connection.
-#[derive(Clone, Copy, PartialEq, Eq)]
-enum After {
-    /// Another one.
-    Another,
-    /// Nothing more is sent.
-    Nothing,
+/// A line, as its forwarder sees it, and its connection. `is_over`: no more is sent over that.
+#[derive(Drop)]
+struct Here<'a, 'f, J: Naming, S: Storage + Drop, R: Wait> {
+    hub: &'a Hub<'f, J, S, R>,
+    line: &'a Line,
+    stream: Cell<Option<Arc<TcpStream>>>,
+    is_over: Cell<bool>,
+    waited: Cell<bool>,
+}
+
+impl<J: Naming, S: Storage + Drop, R: Wait + Clock + Eprint> Forwarded for Here<'_, '_, J, S, R> {
+    fn has_ended(&self) -> bool {
+        self.is_over.get() || self.hub.has_ended()
+    }
+
+    fn is_held(&self) -> bool {
+        self.hub.is_full.load(Ordering::SeqCst) || self.line.stand(self.hub.rt).is_held
+    }
+
+    // (the receiver may end its connection meanwhile)
+    fn wait(&self) {
+        self.line.wait(self.hub.rt);
+        self.waited.set(true);
+        let stream = self.stream.replace(None);
+        if let Some(stream) = &stream
+            && is_ended(stream)
+        {
+            self.is_over.set(true);
+        }
+        self.stream.set(stream);
+    }
+
+    fn count(&self, ack: Ack) {
+        self.line.count(self.hub.rt, ack);
+    }
+
+    // (a receiver that the plan lacks is sent what is left, and then no more)
+    fn stands(&self, left: u64, is_next: bool) {
+        self.line.set_left(self.hub.rt, left, is_next);
+        if left == 0 && !self.line.stand(self.hub.rt).is_planned {
+            self.is_over.set(true);
+        }
+    }
+
+    fn taken(&self) {}
+
+    fn refused(&self, place: u64, why: Ack) {
+        let name = self.line.name.escape_ascii();
+        let answered = match why {
+            Ack::AE => "answered AE",
+            _ => "answered AR three times",
+        };
+        let folder = &self.hub.folder.path;
+        let _ = eprintln!(self.hub.rt;
+            "receiver {name} {answered}: the message is at place {place} of the log in {folder}"
+        );
+    }
+
+    fn unsendable(&self, place: u64, fault: Option<PageFault>) {
+        let name = self.line.name.escape_ascii();
+        let folder = &self.hub.folder.path;
+        let _ = match fault {
+            Some(fault) => eprintln!(self.hub.rt;
+                "receiver {name} isn't sent the message at place {place} of the log in {folder}: {fault}"
+            ),
+            None => eprintln!(self.hub.rt;
+                "receiver {name} isn't sent the message at place {place} of the log in {folder}: no block can have it"
+            ),
+        };
+    }
+
+    fn failed(&self, fault: PageFault) {
+        let name = self.line.name.escape_ascii();
+        let _ = eprintln!(self.hub.rt;
+            "receiver {name}: {fault}\n{}: see hl7gate log",
+            self.hub.folder.path
+        );
+    }
 }
 
 /// A forwarder: of whom, and how many seconds it waits before the next try.
 #[derive(Drop)]
-struct Forwarder<'a, 'f, R: Wait> {
-    hub: &'a Hub<'f, R>,
-    outgoing: &'a Outgoing<'f>,
-    to: &'a Destination,
+struct Forwarder<'a, 'f, J: Naming, S: Storage + Drop, R: Wait> {
+    here: &'a Here<'a, 'f, J, S, R>,
     sent: &'a Cell<bool>,
     pause: u64,
 }
 
-impl<R: Runtime + Wait + Net<Stream = TcpStream, Listener = TcpListener>> Forwarder<'_, '_, R> {
+impl<
+    J: Naming,
+    S: Storage + Drop,
+    R: Runtime + Wait + Net<Stream = TcpStream, Listener = TcpListener>,
+> Forwarder<'_, '_, J, S, R> {
     // Waits before the next try; each time twice as long.
     fn wait(&mut self) {
+        let Here { hub, line, .. } = self.here;
         for _fifth in 0..self.pause.saturating_mul(5) {
-            if self.outgoing.has_ended(self.hub.rt) {
-                return;
+            if hub.has_ended() || line.take_hurry(hub.rt) {
+                break;
             }
-            thread::sleep(self.hub.rt, Duration::from_millis(200));
+            thread::sleep(hub.rt, Duration::from_millis(200));
         }
-        self.pause = self.pause.saturating_mul(2).min(LONGEST);
+        self.pause = self.pause.saturating_mul(2).clamp(1, LONGEST);
     }
 
-    // Sends what waits over this connection, until it ends.
-    fn send_over(&mut self, outbox: &mut Emptying<'_, '_, R>, stream: &TcpStream) -> After {
-        let rt = self.hub.rt;
+    // Where the receiver is, if it is one of the plan, or something is left for it.
+    fn address(&self) -> Result<Option<Vec<u8>>, AllocError> {
+        let Here { hub, line, .. } = self.here;
+        let is_planned = line.stand(hub.rt).is_planned;
+        let office = hub.journal.lock(hub.rt);
+        let receivers = office.ledger.state().receivers();
+        match receivers.iter().find(|r| r.number() == line.number) {
+            Some(receiver) if is_planned || receiver.left() > 0 => {
+                Ok(Some(Vec::from_slice(hub.rt.alloc(), receiver.address())?))
+            }
+            _ => Ok(None),
+        }
+    }
+
+    // Sends what waits over this connection, until it ends. False: nothing more is sent.
+    fn send_over<O: Due>(&mut self, outbox: &mut O, stream: &TcpStream) -> bool {
+        let Here { hub, line, .. } = self.here;
+        let (rt, sent) = (hub.rt, self.sent);
         for _ in rt.forever() {
             let before = outbox.count();
-            let mut reader = Reads::new(Answers::new(rt, self.outgoing, stream));
-            let mut writer = Writes::new(Records::new(stream, self.sent, &self.outgoing.tally));
-            let ended = forward(rt.alloc(), outbox, &mut reader, &mut writer);
+            let mut reader = Reads::new(Answers { hub, stream });
+            let mut writer = Writes::new(Records {
+                hub,
+                line,
+                stream,
+                sent,
+                waited: &self.here.waited,
+                is_new: true,
+            });
+            let ended = outbox.send(rt.alloc(), &mut reader, &mut writer);
             if outbox.count() > before {
-                self.pause = 1;
+                self.pause = 0;
             }
             match ended {
-                Ok(Ended::Closed) => return After::Nothing,
-                Ok(Ended::Again) => self.wait(),
+                Ok(Ended::Closed) => return self.closed(),
+                Ok(Ended::Again) => {
+                    self.pause = self.pause.max(1);
+                    self.wait();
+                }
                 Err(ForwardFault::Record { .. }) => match outbox.put_aside() {
-                    Ok(true) => {}
-                    Ok(false) => self.wait(),
-                    Err(StoreFault::Memory) => return self.ended_by(ForwardFault::Memory),
-                    Err(StoreFault::Disk) => return self.ended_by(ForwardFault::Disk),
+                    Ok(()) => {}
+                    Err(OutboxFault::Memory) => return self.ended_by(ForwardFault::Memory),
+                    Err(_) => return self.ended_by(ForwardFault::Disk),
                 },
                 Err(fault) => return self.ended_by(fault),
             }
@@ -72,105 +180,192 @@ impl<R: Runtime + Wait + Net<Stream = TcpStream, Listener = TcpListener>> Forwar
         unreachable!()
     }
 
-    // A connection, or what waits for its receiver, has failed.
-    fn ended_by(&mut self, fault: ForwardFault) -> After {
-        let rt = self.hub.rt;
-        let name = self.to.name.escape_ascii();
-        if self.outgoing.has_ended(rt) {
-            return After::Nothing;
+    // Nothing more is sent over a connection, though nothing failed. False: nor over another.
+    fn closed(&mut self) -> bool {
+        let Here { hub, line, .. } = self.here;
+        if hub.has_ended() {
+            return false;
+        }
+        if line.stand(hub.rt).is_planned {
+            let name = line.name.escape_ascii();
+            let _ = eprintln!(hub.rt; "receiver {name} ended its connection; it is connected anew");
+        }
+        self.pause = self.pause.min(1);
+        true
+    }
+
+    // A connection, or what waits for its receiver, has failed. False: nothing more is sent.
+    fn ended_by(&mut self, fault: ForwardFault) -> bool {
+        let Here { hub, line, .. } = self.here;
+        let name = line.name.escape_ascii();
+        if hub.has_ended() {
+            return false;
         }
         let _ = match fault {
             ForwardFault::Disk => {
-                self.hub.fail(RunFault::Write);
-                return After::Nothing;
+                hub.fail(RunFault::Write);
+                return false;
             }
-            ForwardFault::Memory => eprintln!(rt; "receiver {name}: out of memory; it goes on"),
+            ForwardFault::Memory => eprintln!(hub.rt; "receiver {name}: out of memory; it goes on"),
             _ if self.sent.get() => {
-                eprintln!(rt; "receiver {name} did not acknowledge a message; it is connected anew")
+                eprintln!(hub.rt;
+                    "receiver {name} did not acknowledge a message; it is connected anew"
+                )
             }
-            _ => eprintln!(rt; "receiver {name} ended its connection; it is connected anew"),
+            _ => eprintln!(hub.rt; "receiver {name} ended its connection; it is connected anew"),
         };
-        After::Another
+        true
+    }
+
+    // Sends over a connection, which the line keeps meanwhile. False: nothing more is sent.
+    fn go_over<O: Due>(&mut self, outbox: &mut O, stream: TcpStream) -> Result<bool, AllocError> {
+        let Here { hub, line, .. } = self.here;
+        let stream = Arc::new(hub.rt.alloc(), stream)?;
+        self.here.stream.set(Some(stream.clone()?));
+        self.here.is_over.set(false);
+        self.here.waited.set(true);
+        line.set_connected(hub.rt, true);
+        let after = self.send_over(outbox, &stream);
+        line.set_connected(hub.rt, false);
+        self.here.stream.set(None);
+        Ok(after)
     }
 
     // Connects, sends, and connects anew, until nothing more is sent.
-    fn run(&mut self, outbox: &mut Emptying<'_, '_, R>) {
-        let rt = self.hub.rt;
-        let address = self.to.address.as_slice();
+    fn run<O: Due>(&mut self, outbox: &mut O) {
+        let Here { hub, line, .. } = self.here;
+        let rt = hub.rt;
         let mut is_down = false;
-        self.outgoing.set_connected(rt, false);
+        line.set_connected(rt, false);
         for _ in rt.forever() {
-            if let Some(stream) = connect(rt, address) {
+            if hub.has_ended() {
+                return;
+            }
+            let Ok(Some(address)) = self.address() else {
+                line.wait(rt);
+                continue;
+            };
+            let (name, at) = (line.name.escape_ascii(), address.escape_ascii());
+            if let Some(stream) = connect(rt, &address) {
                 is_down = false;
-                self.print_connected();
-                self.outgoing.set_connected(rt, true);
-                let after = self.send_over(outbox, &stream);
-                self.outgoing.set_connected(rt, false);
-                if after == After::Nothing {
+                let _ = eprintln!(rt; "receiver {name} at {at} connected");
+                if self.sent.get() {
+                    let name = line.name.escape_ascii();
+                    let _ = eprintln!(rt;
+                        "receiver {name}: a message is sent that it may have already: it wasn't acknowledged"
+                    );
+                }
+                if let Ok(false) = self.go_over(outbox, stream) {
                     return;
                 }
             } else if !is_down {
                 is_down = true;
-                self.print_down();
+                let _ = eprintln!(rt;
+                    "receiver {name} can't be connected; it is tried until it is\n{at}: can't be connected"
+                );
             }
             self.wait();
-            if self.outgoing.has_ended(rt) {
-                return;
-            }
-        }
-    }
-
-    fn print_down(&self) {
-        let name = self.to.name.escape_ascii();
-        let address = self.to.address.escape_ascii();
-        let _ = eprintln!(self.hub.rt;
-            "receiver {name} can't be connected; it is tried until it is\n{address}: can't be connected"
-        );
-    }
-
-    fn print_connected(&self) {
-        let rt = self.hub.rt;
-        let name = self.to.name.escape_ascii();
-        let address = self.to.address.escape_ascii();
-        let _ = eprintln!(rt; "receiver {name} at {address} connected");
-        if self.sent.get() {
-            let name = self.to.name.escape_ascii();
-            let _ = eprintln!(rt;
-                "receiver {name}: a message is sent that it may have already: it wasn't acknowledged"
-            );
         }
     }
 }
 
-/// Sends a receiver what waits for it, until the gateway ends. `sent` is whether bytes of the first message may have been sent.
-fn forward_to<'f, R: Runtime + Wait + Net<Stream = TcpStream, Listener = TcpListener>>(
-    hub: &Hub<'f, R>,
-    outgoing: &Outgoing<'f>,
-    to: &Destination,
-    sent: &Cell<bool>,
-) {
-    let refused = Refused::new(hub.folder, &to.refused);
-    let mut outbox = Emptying::new(hub.rt, outgoing, &to.name, refused, sent);
-    let mut forwarder = Forwarder {
+/// What is due to a receiver: it is sent over a connection, and a record that can't be sent is put aside.
+trait Due {
+    fn count(&self) -> u64;
+
+    fn send<I: Source, W: Sink>(
+        &mut self,
+        alloc: Global,
+        reader: &mut I,
+        writer: &mut W,
+    ) -> Result<Ended, ForwardFault>
+        requires reads { I.has_failed reader.old ≡ false }
+        requires writes { W.has_failed writer.old ≡ false };
+
+    fn put_aside(&mut self) -> Result<(), OutboxFault>;
+}
+
+impl<
+    J: Naming,
+    S: Storage + Drop,
+    V: gw_log::Calls + Drop,
+    R: Wait,
+    L: Forwarded,
+    T: gw_gateway::Times,
+> Due for Pending<'_, J, S, V, R, L, T> {
+    fn count(&self) -> u64 {
+        Outbox::count(self)
+    }
+
+    fn send<I: Source, W: Sink>(
+        &mut self,
+        alloc: Global,
+        reader: &mut I,
+        writer: &mut W,
+    ) -> Result<Ended, ForwardFault> {
+        forward_due(alloc, self, reader, writer)
+    }
+
+    fn put_aside(&mut self) -> Result<(), OutboxFault> {
+        Pending::put_aside(self)
+    }
+}
+
+/// Sends a receiver what is due to it. False: the log's folder can't be opened now.
+fn forward_by<
+    J: Naming,
+    S: Storage + Drop,
+    R: Runtime + Wait + Net<Stream = TcpStream, Listener = TcpListener>,
+>(hub: &Hub<'_, J, S, R>, line: &Line) -> bool {
+    let alloc = hub.rt.alloc();
+    let path = hub.folder.path.as_str();
+    let (Ok(view), Ok(other)) = (
+        FolderView::beside(hub.rt, path),
+        FolderView::beside(hub.rt, path),
+    ) else {
+        return false;
+    };
+    // (what is left from before the start may have been sent then)
+    let sent = Cell::new(hub.taken.load(Ordering::SeqCst) == 0 && hub.left_for(line.number) > 0);
+    let here = Here {
         hub,
-        outgoing,
-        to,
-        sent,
+        line,
+        stream: Cell::new(None),
+        is_over: Cell::new(false),
+        waited: Cell::new(true),
+    };
+    let times = Utc::new(hub.rt, hub.start);
+    let mut outbox = Pending::new(
+        hub.rt,
+        alloc,
+        &hub.journal,
+        &hub.plans,
+        &here,
+        &times,
+        (view, other),
+        line.number,
+        &line.name,
+        &sent,
+    );
+    let mut forwarder = Forwarder {
+        here: &here,
+        sent: &sent,
         pause: 1,
     };
     forwarder.run(&mut outbox);
+    true
 }
 
-/// Sends the receiver of this number what waits for it, until the gateway ends.
-pub(crate) fn forward_all<R: Runtime + Wait + Net<Stream = TcpStream, Listener = TcpListener>>(
-    hub: &Hub<'_, R>,
-    number: usize,
-) {
-    let (Some(outgoing), Some(to)) = (hub.spools.get(number), hub.destination(number)) else {
-        return;
-    };
-    // (what waits from before the start may have been sent then)
-    let sent = Cell::new(outgoing.is_begun(hub.rt));
-    forward_to(hub, outgoing, to, &sent);
-    outgoing.set_begun(hub.rt, sent.get());
+/// Sends a receiver what is due to it, until the gateway ends.
+pub(crate) fn forward_all<
+    J: Naming,
+    S: Storage + Drop,
+    R: Runtime + Wait + Net<Stream = TcpStream, Listener = TcpListener>,
+>(hub: &Hub<'_, J, S, R>, line: Arc<Line>) {
+    for _ in hub.rt.forever() {
+        if hub.has_ended() || forward_by(hub, &line) {
+            return;
+        }
+        line.wait(hub.rt);
+    }
 }

@@ -1,9 +1,15 @@
-//! Receivers whose first message waits for long.
-use crate::gateway::hub::{Destination, Hub};
+//! What is looked at from time to time: receivers whose first message waits for long, and files that nobody needs.
+use crate::gateway::hub::Hub;
+use crate::gateway::lines::Line;
 use crate::stamps::stamp_of;
+use gw_delivery::Keeper;
+use gw_folder::FolderView;
+use gw_journal::{Naming, Storage};
+use gw_ledger::needed_from;
 use std::alloc::AllocError;
+use std::fs::File;
 use std::io::Eprint;
-use std::os::unix::fs::FileExt;
+use std::rt::Files;
 use std::sync::Wait;
 use std::time::Clock;
 
@@ -11,37 +17,71 @@ use std::time::Clock;
 const LONG: u64 = 60;
 
 /// Reports on standard error, and behind the time in the log of refusals, that messages wait for long, or don't any more.
-fn report<R: Wait + Clock + Eprint + AllocGlobal>(
-    hub: &Hub<'_, R>,
-    to: &Destination,
+fn report<J: Naming, S: Storage + Drop, R: Wait + Clock + Eprint + AllocGlobal>(
+    hub: &Hub<'_, J, S, R>,
+    line: &Line,
     waiting: u64,
     is_late: bool,
 ) -> Result<(), AllocError> {
     let alloc = hub.rt.alloc();
-    let name = to.name.escape_ascii();
-    let line = if is_late {
+    let name = line.name.escape_ascii();
+    let said = if is_late {
         format!(in alloc; "receiver {name}: {waiting} wait, the first for more than {LONG} s")?
     } else {
         format!(in alloc; "receiver {name}: none waits for more than {LONG} s any more")?
     };
-    let _ = eprintln!(hub.rt; "{line}");
+    let _ = eprintln!(hub.rt; "{said}");
     let stamp = stamp_of(hub.rt, None).unwrap_or(hub.start);
-    let mut dated = Vec::from_slice(alloc, stamp.digits())?;
-    dated.push(b' ')?;
-    dated.extend_from_slice(line.as_bytes())?;
-    dated.push(b'\n')?;
-    // (the file is opened to be added to)
-    let _ = hub.folder.log.write_all_at(&dated, 0);
+    let dated = format!(in alloc; "{} {said}\n", stamp.digits().escape_ascii())?;
+    hub.folder.add(hub.rt, dated.as_bytes());
     Ok(())
 }
 
 /// Looks at each receiver, and reports those whose first message has come to wait for long, or doesn't any more.
-pub(crate) fn look_at_all<R: Wait + Clock + Eprint + AllocGlobal>(hub: &Hub<'_, R>) {
-    for number in 0..hub.spools.len() {
-        if let (Some(spool), Some(to)) = (hub.spools.get(number), hub.destination(number))
-            && let Some(is_late) = spool.turn_late(hub.rt, LONG)
-        {
-            let _ = report(hub, to, spool.waiting(hub.rt), is_late);
+pub(crate) fn look_at_all<J: Naming, S: Storage + Drop, R: Wait + Clock + Eprint + AllocGlobal>(
+    hub: &Hub<'_, J, S, R>,
+) {
+    let Ok(lines) = hub.lines.all(hub.rt, hub.rt.alloc()) else {
+        return;
+    };
+    for line in &lines {
+        let waiting = hub.left_for(line.number);
+        line.set_left(hub.rt, waiting, false);
+        if let Some(is_late) = line.turn_late(hub.rt, LONG) {
+            let _ = report(hub, line, waiting, is_late);
         }
     }
+}
+
+/// Has the files go that aren't needed: they go when the next file is begun. None: what was read of them has to be read again.
+pub(crate) fn look_at_files<
+    'f,
+    J: Naming,
+    S: Storage + Drop,
+    R: Wait + Files<File = File> + AllocGlobal + Clone + Drop,
+>(
+    hub: &Hub<'f, J, S, R>,
+    keeper: Option<Keeper<FolderView<'f, R>>>,
+) -> Option<Keeper<FolderView<'f, R>>> {
+    let mut keeper = match keeper {
+        Some(keeper) => keeper,
+        None => {
+            let view = FolderView::beside(hub.rt, &hub.folder.path).ok()?;
+            Keeper::new(hub.rt.alloc(), view)
+        }
+    };
+    // (what comes to be left or refused after this look stands there, or behind it)
+    let office = hub.journal.lock(hub.rt);
+    let next = office.ledger.state().next();
+    let left = needed_from(office.ledger.state());
+    drop(office);
+    match keeper.read_to(hub.tail(), next) {
+        Ok(true) => {
+            let needed = keeper.needed(left);
+            hub.journal.lock(hub.rt).ledger.keep_from(needed);
+        }
+        Ok(false) => {}
+        Err(_) => return None,
+    }
+    Some(keeper)
 }

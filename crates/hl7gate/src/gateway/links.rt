@@ -1,13 +1,13 @@
 //! The connection to a receiver: made, watched, written and read.
-use crate::gateway::outgoing::Outgoing;
-use crate::gateway::tally::Tally;
+use crate::gateway::hub::Hub;
+use crate::gateway::lines::Line;
 use crate::sockets;
-use libc::net::{IPPROTO_TCP, SO_KEEPALIVE, SOL_SOCKET, TCP_USER_TIMEOUT, setsockopt};
+use crate::sockets::{is_ended, watch};
+use gw_journal::{Naming, Storage};
 use std::cell::Cell;
 use std::io;
 use std::io::{Error, ErrorKind, Read, Write};
 use std::net::{Net, TcpListener, TcpStream};
-use std::os::fd::AsRawFd;
 use std::sync::Wait;
 use std::time::Duration;
 
@@ -17,56 +17,27 @@ const CONNECT: u64 = 10;
 /// How many seconds an acknowledgment may take, and a write.
 const ANSWER: u64 = 60;
 
-/// After how many milliseconds without an acknowledgment of the other end's system a connection is given up.
-const VANISHED: u32 = 60_000;
-
-/// The bytes of a socket's option.
-fn option_of(value: u32) -> [u8; 16] {
-    let mut bytes = [0u8; 16];
-    bytes[..4].copy_from_slice(&value.to_ne_bytes());
-    bytes
-}
-
-/// Has the system ask a silent peer from time to time, and give a connection up whose peer has vanished.
-pub(crate) fn watch(stream: &TcpStream) {
-    let fd = stream.as_raw_fd();
-    let on = option_of(1);
-    let time = option_of(VANISHED);
-    let _kept = unsafe { setsockopt(fd, SOL_SOCKET, SO_KEEPALIVE, &on, 4) };
-    let _timed = unsafe { setsockopt(fd, IPPROTO_TCP, TCP_USER_TIMEOUT, &time, 4) };
-}
-
-/// The connection to this address, HOST:PORT. It is watched, and each call of it has a time.
+/// The connection to this address, HOST:PORT. It is watched, and each call of it has a second.
 pub(crate) fn connect<R: Net<Stream = TcpStream, Listener = TcpListener>>(
     rt: &R,
     address: &[u8],
 ) -> Option<TcpStream> {
     let stream = sockets::connect(rt, address, Some(Duration::from_secs(CONNECT)))?;
-    let _ = stream.set_read_timeout(Some(Duration::from_secs(1)));
-    let _ = stream.set_write_timeout(Some(Duration::from_secs(ANSWER)));
+    let second = Some(Duration::from_secs(1));
+    let _ = stream.set_read_timeout(second);
+    let _ = stream.set_write_timeout(second);
     watch(&stream);
     Some(stream)
 }
 
 /// What a receiver sends: acknowledgments, for each of which there is a minute.
 #[derive(Drop)]
-pub(crate) struct Answers<'a, 'f, R: Wait> {
-    rt: &'a R,
-    outgoing: &'a Outgoing<'f>,
-    stream: &'a TcpStream,
+pub(crate) struct Answers<'a, 'f, J: Naming, S: Storage + Drop, R: Wait> {
+    pub(crate) hub: &'a Hub<'f, J, S, R>,
+    pub(crate) stream: &'a TcpStream,
 }
 
-impl<'a, 'f, R: Wait> Answers<'a, 'f, R> {
-    pub(crate) fn new(rt: &'a R, outgoing: &'a Outgoing<'f>, stream: &'a TcpStream) -> Self {
-        Answers {
-            rt,
-            outgoing,
-            stream,
-        }
-    }
-}
-
-impl<R: Wait> Read for Answers<'_, '_, R> {
+impl<J: Naming, S: Storage + Drop, R: Wait> Read for Answers<'_, '_, J, S, R> {
     fn read(&mut self, buf: &mut [u8]) -> io::Result<usize> {
         for _second in 0..ANSWER {
             let mut stream = self.stream;
@@ -75,7 +46,7 @@ impl<R: Wait> Read for Answers<'_, '_, R> {
                 read => return read,
             }
             // (an acknowledgment that is due has had a second to come)
-            if self.outgoing.has_ended(self.rt) {
+            if self.hub.has_ended() {
                 break;
             }
         }
@@ -86,53 +57,38 @@ impl<R: Wait> Read for Answers<'_, '_, R> {
 /// What a receiver is sent. `sent` is set where a byte of a message may have been written.
 /// Before a message the connection is looked at: nothing is written to one that its receiver has ended.
 #[derive(Drop)]
-pub(crate) struct Records<'a> {
-    stream: &'a TcpStream,
-    sent: &'a Cell<bool>,
-    tally: &'a Tally,
-    // no message was written yet
-    is_new: bool,
+pub(crate) struct Records<'a, 'f, J: Naming, S: Storage + Drop, R: Wait> {
+    pub(crate) hub: &'a Hub<'f, J, S, R>,
+    pub(crate) line: &'a Line,
+    pub(crate) stream: &'a TcpStream,
+    pub(crate) sent: &'a Cell<bool>,
+    /// Whether its forwarder has waited since the connection was looked at.
+    pub(crate) waited: &'a Cell<bool>,
+    /// No message was written yet.
+    pub(crate) is_new: bool,
 }
 
-impl<'a> Records<'a> {
-    pub(crate) fn new(stream: &'a TcpStream, sent: &'a Cell<bool>, tally: &'a Tally) -> Self {
-        Records {
-            stream,
-            sent,
-            tally,
-            is_new: true,
-        }
-    }
-
-    // Whether the receiver has ended the connection, or it has failed.
-    fn has_ended(&self) -> bool {
-        let mut byte = [0u8; 1];
-        if self.stream.set_nonblocking(true).is_err() {
-            return true;
-        }
-        let looked = self.stream.peek(&mut byte);
-        if self.stream.set_nonblocking(false).is_err() {
-            return true;
-        }
-        match looked {
-            Ok(count) => count == 0,
-            Err(error) => error.kind() != ErrorKind::WouldBlock,
-        }
-    }
-}
-
-impl Write for Records<'_> {
+impl<J: Naming, S: Storage + Drop, R: Wait> Write for Records<'_, '_, J, S, R> {
     fn write(&mut self, buf: &[u8]) -> io::Result<usize> {
-        if !self.sent.get() && self.has_ended() {
+        if !self.sent.get() && self.waited.replace(false) && is_ended(self.stream) {
             return Err(Error::from(ErrorKind::BrokenPipe));
         }
         if self.is_new || !self.sent.get() {
-            self.tally.count_sent();
+            self.line.count_sent(self.hub.rt);
         }
         self.is_new = false;
         self.sent.set(true);
-        let mut stream = self.stream;
-        stream.write(buf)
+        for _second in 0..ANSWER {
+            let mut stream = self.stream;
+            match stream.write(buf) {
+                Err(error) if error.kind() == ErrorKind::WouldBlock => {}
+                written => return written,
+            }
+            if self.hub.has_ended() {
+                break;
+            }
+        }
+        Err(Error::from(ErrorKind::TimedOut))
     }
 
     fn flush(&mut self) -> io::Result<()> {

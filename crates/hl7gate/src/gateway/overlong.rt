@@ -1,12 +1,13 @@
 //! A message that is too long: it is answered AR where its first segment came, before its connection ends.
 use crate::gateway::hub::Hub;
 use crate::gateway::refusals::Logged;
+use crate::gateway::senders::Sender;
 use crate::stamps::Utc;
 use gw_ack::{Header, INTERNAL, Reply, answer};
 use gw_er7::{ReadFault, read};
+use gw_journal::{Naming, Storage};
 use gw_mllp::{is_content, write_block};
 use gw_run::Clock as Stamps;
-use gw_stream::{Counts, RunFault};
 use memchr::memchr;
 use std::alloc::{AllocError, Global};
 use std::io::{Eprint, ErrorKind, Read, Write};
@@ -26,11 +27,6 @@ const PIECE: usize = 65_536;
 const VT: u8 = 0x0b;
 
 const CR: u8 = 0x0d;
-
-/// Whether a session ended at a message that is too long.
-pub(crate) fn is_overlong(answered: &Result<Counts, RunFault>) -> bool {
-    matches!(answered, Err(RunFault::Frame(2)))
-}
 
 /// The first segment of the message that begins in these bytes, with its CR, if it came.
 fn first_segment(bytes: &[u8]) -> Option<&[u8]> {
@@ -52,8 +48,8 @@ fn header_in(alloc: Global, bytes: &[u8]) -> Result<Option<Header>, AllocError> 
 }
 
 /// The block of the answer AR to the message with this header, under this number.
-fn block_of<R: Wait + Clock>(
-    hub: &Hub<'_, R>,
+fn block_of<J: Naming, S: Storage + Drop, R: Wait + Clock>(
+    hub: &Hub<'_, J, S, R>,
     alloc: Global,
     header: &Header,
     number: u64,
@@ -68,7 +64,10 @@ fn block_of<R: Wait + Clock>(
 }
 
 /// Reads what a sender still sends. If bytes were left unread, the system would drop the answer with them.
-fn read_rest<R: Wait + Clock>(hub: &Hub<'_, R>, stream: &TcpStream) {
+fn read_rest<J: Naming, S: Storage + Drop, R: Wait + Clock>(
+    hub: &Hub<'_, J, S, R>,
+    stream: &TcpStream,
+) {
     let _ = stream.set_read_timeout(Some(Duration::from_millis(LOOK)));
     let Ok(begun) = Instant::now(hub.rt) else {
         return;
@@ -77,7 +76,7 @@ fn read_rest<R: Wait + Clock>(hub: &Hub<'_, R>, stream: &TcpStream) {
     let mut reader = stream;
     for _ in 0..u64::MAX {
         match begun.elapsed(hub.rt) {
-            Ok(passed) if passed < Duration::from_millis(PATIENCE) && !hub.is_over() => {}
+            Ok(passed) if passed < Duration::from_millis(PATIENCE) && !hub.has_ended() => {}
             _ => return,
         }
         match reader.read(&mut piece) {
@@ -89,19 +88,19 @@ fn read_rest<R: Wait + Clock>(hub: &Hub<'_, R>, stream: &TcpStream) {
 }
 
 /// Answers the message that begins in these bytes AR under this number, if its header came. Nothing is sent to this sender any more.
-pub(crate) fn reject<R: Wait + Clock + Eprint + AllocGlobal>(
-    hub: &Hub<'_, R>,
-    stream: &TcpStream,
-    session: u64,
+pub(crate) fn reject<J: Naming, S: Storage + Drop, R: Wait + Clock + Eprint + AllocGlobal>(
+    hub: &Hub<'_, J, S, R>,
+    sender: &Sender,
     bytes: &[u8],
     number: u64,
 ) -> Result<(), AllocError> {
+    let stream = &sender.stream;
     let alloc = hub.rt.alloc();
     let Some(header) = header_in(alloc, bytes)? else {
         return Ok(());
     };
     let block = block_of(hub, alloc, &header, number)?;
-    let mut writer = Logged::new(alloc, hub, stream, session);
+    let mut writer = Logged::new(alloc, hub, stream, sender.number);
     if writer.write_all(&block).is_ok() {
         let _ = stream.shutdown(Shutdown::Write);
         read_rest(hub, stream);

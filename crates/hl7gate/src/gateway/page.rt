@@ -1,21 +1,24 @@
 //! The page, the metrics and the health of a gateway, over HTTP: one connection at a time, for five seconds at most.
 use crate::ended::Ended;
-use crate::gateway::hub::{Counters, Destination, Hub};
-use crate::gateway::outgoing::{Outgoing, State};
-use crate::gateway::tally::Tallied;
-use crate::gateway::watch::Seen;
+use crate::gateway::hub::Hub;
+use crate::gateway::lines::{Line, Stand};
+use crate::sockets::{listen_briefly, pause};
 use crate::stamps::{stamp_of, time_in};
 use clap::ArgMatches;
-use gw_page::{Figures, Receiver, answer};
+use gw_due::Receiver as Noted;
+use gw_journal::{Naming, Storage};
+use gw_page::{Figures, Receiver, Seen, answer, status, status_json};
 use gw_stream::RunFault;
 use std::alloc::{AllocError, Global};
 use std::hash::RandomState;
+use std::io;
 use std::io::{Eprint, Error, ErrorKind, Read, Write};
-use std::net::{Net, Shutdown, SocketAddr, TcpListener, TcpStream};
+use std::net::{Net, Shutdown, TcpListener, TcpStream};
+use std::os::fd::AsRawFd;
 use std::random::RandomSource;
 use std::sync::Wait;
+use std::sync::atomic::Ordering;
 use std::time::{Clock, Duration, Instant};
-use std::{io, thread};
 
 /// How many seconds a request and its answer may take, and how many the other end has to close its connection.
 const PATIENCE: u64 = 5;
@@ -69,64 +72,65 @@ impl Pages {
         }
         Ok(Some(Pages { listener, keys }))
     }
-
-    /// Where it listens.
-    pub(crate) fn address(&self) -> Option<SocketAddr> {
-        self.listener.local_addr().ok()
-    }
 }
 
-/// A receiver's figures.
-fn receiver_of<R: Wait + Clock + AllocGlobal>(
+/// The figures of a receiver: how its line stands, and what the log has of it.
+fn receiver_of<R: Clock + AllocGlobal>(
     rt: &R,
-    to: &Destination,
-    spool: &Outgoing<'_>,
+    line: &Line,
+    stand: &Stand,
+    noted: &Noted,
 ) -> Result<Receiver, AllocError> {
-    let State {
-        waiting,
-        stuck,
-        is_connected,
-        is_held,
-        ..
-    } = spool.state(rt);
-    let Tallied { sent, aa, ae, ar } = spool.tally.counts();
     Ok(Receiver {
-        name: to.name.as_slice().to_vec(rt.alloc())?,
-        is_connected,
-        is_held,
-        down: spool.tally.away(rt),
-        waiting,
-        oldest: stuck,
-        sent,
-        aa,
-        ae,
-        ar,
+        name: Vec::from_slice(rt.alloc(), &line.name)?,
+        address: Vec::from_slice(rt.alloc(), noted.address())?,
+        is_connected: stand.is_connected,
+        is_held: stand.is_held,
+        down: stand.down(rt),
+        waiting: noted.left(),
+        oldest: stand.stuck(rt),
+        sent: stand.sent,
+        aa: stand.aa,
+        ae: stand.ae,
+        ar: stand.ar,
+        refused: noted.refused(),
     })
 }
 
-/// The figures of the receivers, in the plan's order.
-fn receivers_of<R: Wait + Clock + AllocGlobal>(
-    hub: &Hub<'_, R>,
-) -> Result<Vec<Receiver>, AllocError> {
-    let mut receivers = Vec::new(hub.rt.alloc());
-    for (number, spool) in hub.spools.iter().enumerate() {
-        if let Some(to) = hub.destination(number) {
-            receivers.push(receiver_of(hub.rt, to, spool)?)?;
-        }
+/// Adds the figures of a line's receiver, where it is one of the plan, or something is left for it.
+fn add_figures<R: Wait + Clock + AllocGlobal>(
+    rt: &R,
+    all: &mut Vec<Receiver>,
+    line: &Line,
+    noted: &[Noted],
+) -> Result<(), AllocError> {
+    let stand = line.stand(rt);
+    if let Some(noted) = noted.iter().find(|r| r.number() == line.number)
+        && (stand.is_planned || noted.left() > 0)
+    {
+        all.push(receiver_of(rt, line, &stand, noted)?)?;
     }
-    Ok(receivers)
+    Ok(())
+}
+
+/// The figures of the receivers.
+fn receivers_of<J: Naming, S: Storage + Drop, R: Wait + Clock + AllocGlobal>(
+    hub: &Hub<'_, J, S, R>,
+) -> Result<Vec<Receiver>, AllocError> {
+    let mut all = Vec::new(hub.rt.alloc());
+    let lines = hub.lines.all(hub.rt, hub.rt.alloc())?;
+    let office = hub.journal.lock(hub.rt);
+    for line in &lines {
+        add_figures(hub.rt, &mut all, line, office.ledger.state().receivers())?;
+    }
+    Ok(all)
 }
 
 /// The figures of this moment.
-fn figures_of<R: Wait + Clock + AllocGlobal>(hub: &Hub<'_, R>) -> Result<Figures, AllocError> {
-    let Counters {
-        rounds,
-        version,
-        accepted,
-        is_short,
-        ..
-    } = hub.counters();
-    let (open, sessions) = hub.senders();
+fn figures_of<J: Naming, S: Storage + Drop, R: Wait + Clock + AllocGlobal>(
+    hub: &Hub<'_, J, S, R>,
+) -> Result<Figures, AllocError> {
+    let entries = hub.journal.lock(hub.rt).ledger.state().next();
     let Seen {
         refusals,
         codes,
@@ -134,14 +138,13 @@ fn figures_of<R: Wait + Clock + AllocGlobal>(hub: &Hub<'_, R>) -> Result<Figures
     } = hub.watch.seen(hub.rt, hub.rt.alloc())?;
     Ok(Figures {
         time: time_in(stamp_of(hub.rt, None).unwrap_or(hub.start).digits()),
-        rounds,
-        plan: version,
-        accepted,
+        plan: hub.taken.load(Ordering::SeqCst),
+        accepted: hub.accepted.load(Ordering::SeqCst),
         refused,
-        open,
-        sessions,
-        entries: hub.entries(),
-        is_short,
+        open: hub.open.load(Ordering::SeqCst),
+        sessions: hub.sessions.load(Ordering::SeqCst),
+        entries,
+        is_short: hub.is_short.load(Ordering::SeqCst),
         has_failed: hub.fault().is_some(),
         receivers: receivers_of(hub)?,
         codes,
@@ -149,25 +152,37 @@ fn figures_of<R: Wait + Clock + AllocGlobal>(hub: &Hub<'_, R>) -> Result<Figures
     })
 }
 
+/// How the gateway stands, to be read or as JSON.
+pub(crate) fn state<J: Naming, S: Storage + Drop, R: Wait + Clock + AllocGlobal>(
+    hub: &Hub<'_, J, S, R>,
+    is_json: bool,
+) -> Result<Vec<u8>, AllocError> {
+    let figures = figures_of(hub)?;
+    if is_json {
+        return status_json(hub.rt.alloc(), &figures);
+    }
+    status(hub.rt.alloc(), &figures)
+}
+
 /// A connection that is read and written up to a moment, or until the gateway ends or its receivers change.
 #[derive(Drop)]
-struct Patient<'a, 'f, R: Wait> {
-    hub: &'a Hub<'f, R>,
+struct Patient<'a, 'f, J: Naming, S: Storage + Drop, R: Wait> {
+    hub: &'a Hub<'f, J, S, R>,
     stream: &'a TcpStream,
     since: Instant,
     patience: Duration,
 }
 
-impl<R: Wait + Clock> Patient<'_, '_, R> {
+impl<J: Naming, S: Storage + Drop, R: Wait + Clock> Patient<'_, '_, J, S, R> {
     fn is_over(&self) -> bool {
         match self.since.elapsed(self.hub.rt) {
-            Ok(passed) => passed >= self.patience || self.hub.is_closing(),
+            Ok(passed) => passed >= self.patience || self.hub.has_ended(),
             Err(_) => true,
         }
     }
 }
 
-impl<R: Wait + Clock> Read for Patient<'_, '_, R> {
+impl<J: Naming, S: Storage + Drop, R: Wait + Clock> Read for Patient<'_, '_, J, S, R> {
     fn read(&mut self, buf: &mut [u8]) -> io::Result<usize> {
         for _ in 0..PATIENCE * 1_000 / LOOK {
             if self.is_over() {
@@ -183,7 +198,7 @@ impl<R: Wait + Clock> Read for Patient<'_, '_, R> {
     }
 }
 
-impl<R: Wait + Clock> Write for Patient<'_, '_, R> {
+impl<J: Naming, S: Storage + Drop, R: Wait + Clock> Write for Patient<'_, '_, J, S, R> {
     fn write(&mut self, buf: &[u8]) -> io::Result<usize> {
         for _ in 0..PATIENCE * 1_000 / LOOK {
             if self.is_over() {
@@ -204,11 +219,11 @@ impl<R: Wait + Clock> Write for Patient<'_, '_, R> {
 }
 
 /// A connection with this many seconds from now on.
-fn limited<'a, 'f, R: Wait + Clock>(
-    hub: &'a Hub<'f, R>,
+fn limited<'a, 'f, J: Naming, S: Storage + Drop, R: Wait + Clock>(
+    hub: &'a Hub<'f, J, S, R>,
     stream: &'a TcpStream,
     seconds: u64,
-) -> io::Result<Patient<'a, 'f, R>> {
+) -> io::Result<Patient<'a, 'f, J, S, R>> {
     Ok(Patient {
         hub,
         stream,
@@ -218,7 +233,10 @@ fn limited<'a, 'f, R: Wait + Clock>(
 }
 
 /// Passes over what still comes, so that the answer isn't lost with it.
-fn pass_over<R: Wait + Clock>(hub: &Hub<'_, R>, stream: &TcpStream) -> io::Result<()> {
+fn pass_over<J: Naming, S: Storage + Drop, R: Wait + Clock>(
+    hub: &Hub<'_, J, S, R>,
+    stream: &TcpStream,
+) -> io::Result<()> {
     stream.shutdown(Shutdown::Write)?;
     let mut rest = limited(hub, stream, CLOSE)?;
     let mut piece = [0u8; PIECE];
@@ -231,8 +249,8 @@ fn pass_over<R: Wait + Clock>(hub: &Hub<'_, R>, stream: &TcpStream) -> io::Resul
 }
 
 /// Answers one connection.
-fn show<R: Wait + Clock + AllocGlobal>(
-    hub: &Hub<'_, R>,
+fn show<J: Naming, S: Storage + Drop, R: Wait + Clock + AllocGlobal>(
+    hub: &Hub<'_, J, S, R>,
     keys: RandomState,
     stream: &TcpStream,
 ) -> io::Result<()> {
@@ -248,19 +266,24 @@ fn show<R: Wait + Clock + AllocGlobal>(
 }
 
 /// Answers one connection after another, while the receivers stay.
-pub(crate) fn show_all<R: Wait + Clock + AllocGlobal>(hub: &Hub<'_, R>, pages: Option<&Pages>) {
+pub(crate) fn show_all<J: Naming, S: Storage + Drop, R: Wait + Clock + AllocGlobal>(
+    hub: &Hub<'_, J, S, R>,
+    pages: Option<&Pages>,
+) {
     let Some(pages) = pages else {
         return;
     };
+    listen_briefly(pages.listener.as_raw_fd());
     for _ in hub.rt.forever() {
         let accepted = pages.listener.accept();
-        if hub.is_closing() {
+        if hub.has_ended() {
             return;
         }
         match accepted {
             // (whoever doesn't take the answer has none)
             Ok((stream, _peer)) => drop(show(hub, pages.keys, &stream)),
-            Err(_) => thread::sleep(hub.rt, Duration::from_millis(LOOK)),
+            Err(error) if error.kind() == ErrorKind::WouldBlock => {}
+            Err(_) => pause(hub.rt),
         }
     }
 }

@@ -1,41 +1,41 @@
 //! What is noted of each answer that isn't AA: a line of the log, which has the message's control id, and what the page shows, which hasn't.
 use crate::gateway::hub::Hub;
-use crate::gateway::watch::{Noted, Word};
 use crate::stamps::time_in;
 use gw_er7::{Message, Place, Segment, read};
+use gw_journal::{Naming, Storage};
 use gw_mllp::Decoder;
+use gw_page::Refusal;
 use memchr::memmem::find;
 use std::alloc::{AllocError, Global};
 use std::io;
 use std::io::{Eprint, Error, ErrorKind, Write};
 use std::net::TcpStream;
-use std::os::unix::fs::FileExt;
 use std::sync::Wait;
 
 /// How many milliseconds one write waits for its sender.
 pub(crate) const TURN: u64 = 200;
 
-/// How many times an answer is waited for: a minute. Once the round is over, all answers of a session are: a second.
-const TURNS: u64 = 300;
+/// How many times an answer is waited for: 58 seconds. Once the gateway ends, all answers of a session are: a second.
+const TURNS: u64 = 290;
 
 const LAST_TURNS: u64 = 5;
 
 /// A sender's connection as its answers are written, with the log.
 #[derive(Drop)]
-pub(crate) struct Logged<'a, 'f, R: Wait> {
+pub(crate) struct Logged<'a, 'f, J: Naming, S: Storage + Drop, R: Wait> {
     alloc: Global,
-    hub: &'a Hub<'f, R>,
+    hub: &'a Hub<'f, J, S, R>,
     stream: &'a TcpStream,
     session: u64,
     answers: Decoder,
-    // how many times an answer was waited for since the round was over
+    // how many times an answer was waited for since the gateway ends
     late: u64,
 }
 
-impl<'a, 'f, R: Wait> Logged<'a, 'f, R> {
+impl<'a, 'f, J: Naming, S: Storage + Drop, R: Wait> Logged<'a, 'f, J, S, R> {
     pub(crate) fn new(
         alloc: Global,
-        hub: &'a Hub<'f, R>,
+        hub: &'a Hub<'f, J, S, R>,
         stream: &'a TcpStream,
         session: u64,
     ) -> Self {
@@ -61,25 +61,24 @@ impl<'a, 'f, R: Wait> Logged<'a, 'f, R> {
             if !is_accepted(&content)
                 && let Ok(answer) = read(self.alloc, &content)
             {
-                self.note(&answer);
+                let _ = self.note(&answer);
             }
         }
     }
 
     // Notes an answer that isn't AA.
-    fn note(&self, answer: &Message) {
-        self.hub
-            .watch
-            .note(self.hub.rt, noted_of(self.session, answer));
-        if let Ok(line) = line_of(self.alloc, self.session, answer) {
-            // (the file is opened to be added to)
-            let _ = self.hub.folder.log.write_all_at(&line, 0);
-        }
+    fn note(&self, answer: &Message) -> Result<(), AllocError> {
+        let refusal = refusal_of(self.alloc, self.session, answer)?;
+        let control = word_of(self.alloc, answer, b"MSA", 2)?;
+        let line = line_of(self.alloc, &refusal, &control)?;
+        self.hub.watch.note(self.hub.rt, refusal);
+        self.hub.folder.add(self.hub.rt, line.as_bytes());
+        Ok(())
     }
 }
 
-impl<R: Wait + Eprint> Logged<'_, '_, R> {
-    // Writes as much as the sender takes in time. The next round waits for the end of this one, so then it has less time.
+impl<J: Naming, S: Storage + Drop, R: Wait + Eprint> Logged<'_, '_, J, S, R> {
+    // Writes as much as the sender takes in time. Once the gateway ends it has less time.
     fn send(&mut self, buf: &[u8]) -> io::Result<usize> {
         let mut stream = self.stream;
         for _turn in 0..TURNS {
@@ -87,7 +86,7 @@ impl<R: Wait + Eprint> Logged<'_, '_, R> {
                 Err(error) if error.kind() == ErrorKind::WouldBlock => {}
                 written => return written,
             }
-            if self.hub.is_over() {
+            if self.hub.has_ended() {
                 self.late = self.late.saturating_add(1);
             }
             if self.late >= LAST_TURNS {
@@ -102,7 +101,7 @@ impl<R: Wait + Eprint> Logged<'_, '_, R> {
     }
 }
 
-impl<R: Wait + Eprint> Write for Logged<'_, '_, R> {
+impl<J: Naming, S: Storage + Drop, R: Wait + Eprint> Write for Logged<'_, '_, J, S, R> {
     fn write(&mut self, buf: &[u8]) -> io::Result<usize> {
         let count = self.send(buf)?.min(buf.len());
         self.take(&buf[..count]);
@@ -123,113 +122,80 @@ fn is_accepted(content: &[u8]) -> bool {
     content.get(code..code.saturating_add(2)) == Some(b"AA".as_slice())
 }
 
-/// The text of the first component of a field.
-fn field_of<'a>(segment: &Segment<'a>, field: usize) -> &'a [u8] {
-    segment.text(Place {
+/// The first segment of this name.
+fn segment_of<'a>(answer: &'a Message, name: &[u8; 3]) -> Option<Segment<'a>> {
+    for i in 0..answer.segment_count() {
+        let segment = answer.segment(i);
+        if segment.name() == *name {
+            return Some(segment);
+        }
+    }
+    None
+}
+
+/// The text of the first component of a field. It is empty where the answer has none.
+fn word_of(
+    alloc: Global,
+    answer: &Message,
+    name: &[u8; 3],
+    field: usize,
+) -> Result<Vec<u8>, AllocError> {
+    let place = Place {
         field,
         rep: 1,
         comp: 1,
         sub: 1,
-    })
+    };
+    match segment_of(answer, name) {
+        Some(segment) => Vec::from_slice(alloc, segment.text(place)),
+        None => Ok(Vec::new(alloc)),
+    }
 }
 
-/// Adds a word to a line. An empty one is a dash.
-fn put(line: &mut Vec<u8>, word: &[u8]) -> Result<(), AllocError> {
-    line.push(b' ')?;
-    line.extend_from_slice(if word.is_empty() { b"-" } else { word })
-}
-
-/// Adds the condition's code and the place, as ERR has them.
-fn put_error(line: &mut Vec<u8>, error: &Segment<'_>) -> Result<(), AllocError> {
-    put(line, field_of(error, 3))?;
+/// The place in the message, as ERR has it.
+fn place_of(alloc: Global, answer: &Message) -> Result<Vec<u8>, AllocError> {
+    let mut place = Vec::new(alloc);
+    let Some(error) = segment_of(answer, b"ERR") else {
+        return Ok(place);
+    };
     for comp in 1..=error.comps(2, 1) {
-        line.push(if comp == 1 { b' ' } else { b'^' })?;
-        line.extend_from_slice(error.text(Place {
+        if comp > 1 {
+            place.push(b'^')?;
+        }
+        place.extend_from_slice(error.text(Place {
             field: 2,
             rep: 1,
             comp,
             sub: 1,
         }))?;
     }
-    Ok(())
-}
-
-/// Adds what the line of an answer has of a segment.
-fn put_segment(line: &mut Vec<u8>, session: &str, segment: &Segment<'_>) -> Result<(), AllocError> {
-    match &segment.name() {
-        // the time of the answer, the session and the answer's number
-        b"MSH" => {
-            line.extend_from_slice(field_of(segment, 7))?;
-            put(line, session.as_bytes())?;
-            put(line, field_of(segment, 10))
-        }
-        b"MSA" => {
-            put(line, field_of(segment, 2))?;
-            put(line, field_of(segment, 1))
-        }
-        b"ERR" => put_error(line, segment),
-        _ => Ok(()),
-    }
-}
-
-/// The line of an answer: its time and number, the session, the message's control id, MSA-1, and the code and place of ERR.
-fn line_of(alloc: Global, session: u64, answer: &Message) -> Result<Vec<u8>, AllocError> {
-    let session = format!(in alloc; "session {session}")?;
-    let mut line = Vec::new(alloc);
-    for i in 0..answer.segment_count() {
-        put_segment(&mut line, session.as_str(), &answer.segment(i))?;
-    }
-    line.push(b'\n')?;
-    Ok(line)
-}
-
-fn word_of(text: &[u8]) -> Word {
-    let mut word = Word::new();
-    word.add(text);
-    word
-}
-
-/// The place, as ERR has it.
-fn place_of(error: &Segment<'_>) -> Word {
-    let mut place = Word::new();
-    for comp in 1..=error.comps(2, 1) {
-        if comp > 1 {
-            place.add(b"^");
-        }
-        place.add(error.text(Place {
-            field: 2,
-            rep: 1,
-            comp,
-            sub: 1,
-        }));
-    }
-    place
+    Ok(place)
 }
 
 /// What the page shows of an answer: of the message its place alone, no value and no control id.
-fn noted_of(session: u64, answer: &Message) -> Noted {
-    let mut noted = Noted {
-        time: [b'0'; 14],
+fn refusal_of(alloc: Global, session: u64, answer: &Message) -> Result<Refusal, AllocError> {
+    Ok(Refusal {
+        time: time_in(&word_of(alloc, answer, b"MSH", 7)?),
         session,
-        number: Word::new(),
-        answer: Word::new(),
-        code: Word::new(),
-        place: Word::new(),
-    };
-    for i in 0..answer.segment_count() {
-        let segment = answer.segment(i);
-        match &segment.name() {
-            b"MSH" => {
-                noted.time = time_in(field_of(&segment, 7));
-                noted.number = word_of(field_of(&segment, 10));
-            }
-            b"MSA" => noted.answer = word_of(field_of(&segment, 1)),
-            b"ERR" => {
-                noted.code = word_of(field_of(&segment, 3));
-                noted.place = place_of(&segment);
-            }
-            _ => {}
-        }
-    }
-    noted
+        number: word_of(alloc, answer, b"MSH", 10)?,
+        answer: word_of(alloc, answer, b"MSA", 1)?,
+        code: word_of(alloc, answer, b"ERR", 3)?,
+        place: place_of(alloc, answer)?,
+    })
+}
+
+/// The line of an answer: its time, the session, its number, the message's control id, MSA-1, and the code and place of ERR.
+fn line_of(alloc: Global, refusal: &Refusal, control: &[u8]) -> Result<String, AllocError> {
+    let session = refusal.session;
+    let control = if control.is_empty() { b"-" } else { control };
+    let gap = if refusal.place.is_empty() { "" } else { " " };
+    format!(in alloc;
+        "{} session {session} {} {} {} {}{gap}{}\n",
+        refusal.time.escape_ascii(),
+        refusal.number.escape_ascii(),
+        control.escape_ascii(),
+        refusal.answer.escape_ascii(),
+        refusal.code.escape_ascii(),
+        refusal.place.escape_ascii()
+    )
 }

@@ -4,8 +4,8 @@ use Rattle.gw_log.specs.State.{ReadsOn}
 use Rattle.gw_listing.proofs.Given.{begun}
 use Rattle.gw_listing.proofs.walk.begin_file.Goals as goal
 
-pub returns-in-Ok-Some-clause-read : goal.returns-in-Ok-Some-clause-read
-returns-in-Ok-Some-clause-read g c = λ honest.
+pub returns-else-not-is_open-clause-read : goal.returns-else-not-is_open-clause-read
+returns-else-not-is_open-clause-read g c = λ honest.
     let small : c.in-Ok.size < 2 ^ 62 = search rules in
     subst (λ o. IfSome o (λ r. ReadsOn g.D.Disk.seen c.at-reader.result c.next.new.self r.items)) c.in-Ok-Some.field-0-is
     (c.in-Ok-Some.ensures.some honest) []

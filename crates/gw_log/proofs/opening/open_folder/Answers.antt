@@ -32,7 +32,7 @@ returns-in_err-repair-clause-any_moment g c = λ honest from head records log.
     let first = weaker _ _ _ _ _ _ (λ f may. log_same _ _ _ _ _ log f (c.requires f may)) reads.moments in
     let second = joined _ _ _ _ _ _ first (weaker _ _ _ _ _ _
     (λ f trimmed. log_trimmed _ _ _ _ _ log _ _ number (found.top was) f (trimmed_as _ _ _ _ f reads.same trimmed)) (c.trim.ensures.any_moment only)) in
-    let up = subst (λ l. UpTo l c.in_ok-found.found.end (records_of c.in_ok-found.found.records.items)) (last_kept _ _ _ _ _ reads.same trim.others trim.kept) (found.up was) in
+    let up = subst (λ l. UpTo l c.in_ok-found.found.end.gate c.in_ok-found.found.end.reach c.in_ok-found.found.end.size (records_of c.in_ok-found.found.records.items)) (last_kept _ _ _ _ _ reads.same trim.others trim.kept) (found.up was) in
     joined _ _ _ _ _ _ second (weaker _ _ _ _ _ _
     (λ f changes. log_repaired _ _ _ _ _ log _ _ number (found.top was) _ f _ (λ m differs. trim.others m differs ∙ ap (λ (l : Files). l m) reads.same) trim.gone
     (found.up was).has changes)
@@ -49,7 +49,7 @@ returns-clause-any_moment g c = λ honest from head records log.
     let first = weaker _ _ _ _ _ _ (λ f may. log_same _ _ _ _ _ log f (c.requires f may)) reads.moments in
     let second = joined _ _ _ _ _ _ first (weaker _ _ _ _ _ _
     (λ f trimmed. log_trimmed _ _ _ _ _ log _ _ number (found.top was) f (trimmed_as _ _ _ _ f reads.same trimmed)) (c.trim.ensures.any_moment only)) in
-    let up = subst (λ l. UpTo l c.in_ok-found.found.end (records_of c.in_ok-found.found.records.items)) (last_kept _ _ _ _ _ reads.same trim.others trim.kept) (found.up was) in
+    let up = subst (λ l. UpTo l c.in_ok-found.found.end.gate c.in_ok-found.found.end.reach c.in_ok-found.found.end.size (records_of c.in_ok-found.found.records.items)) (last_kept _ _ _ _ _ reads.same trim.others trim.kept) (found.up was) in
     joined _ _ _ _ _ _ second (weaker _ _ _ _ _ _
     (λ f changes. log_repaired _ _ _ _ _ log _ _ number (found.top was) _ f _ (λ m differs. trim.others m differs ∙ ap (λ (l : Files). l m) reads.same) trim.gone
     (found.up was).has changes)
@@ -60,7 +60,7 @@ returns-clause-staged g c = λ honest.
     let was = c.trim.ensures.back (c.repair.ensures.back honest) in
     let reads = c.find.ensures.reads in
     let trim = c.in_ok-trim.ensures in
-    let up = subst (λ l. UpTo l c.in_ok-found.found.end (records_of c.in_ok-found.found.records.items)) (last_kept _ _ _ _ _ reads.same trim.others trim.kept) (c.in_ok-found.ensures.up was) in
+    let up = subst (λ l. UpTo l c.in_ok-found.found.end.gate c.in_ok-found.found.end.reach c.in_ok-found.found.end.size (records_of c.in_ok-found.found.records.items)) (last_kept _ _ _ _ _ reads.same trim.others trim.kept) (c.in_ok-found.ensures.up was) in
     c.in_ok-repair.ensures.repaired _ (trim.only (only_read _ _ _ _ _ _ _ reads c.requires)) up
 
 pub returns-clause-found : goal.returns-clause-found

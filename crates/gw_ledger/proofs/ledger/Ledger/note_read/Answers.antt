@@ -7,4 +7,5 @@ invariant_of-self g c = (
   c.self.invariant.1,
   c.self.invariant.2,
   c.self.invariant.3,
+  c.self.invariant.4,
 )

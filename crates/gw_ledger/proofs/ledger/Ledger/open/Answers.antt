@@ -13,4 +13,5 @@ invariant_of-result g c = (
   c.requires.tells,
   first_number c.args.state.last c.args.state.margin c.max.result (let max = c.max.ensures in let margin = c.margin-margin.ensures in omega (arith, max, margin)) c.requires.numbers,
   tt,
+  c.requires.spares,
 )

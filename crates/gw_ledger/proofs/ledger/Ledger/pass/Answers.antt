@@ -8,7 +8,7 @@ use Rattle.gw_ledger.proofs.ledger.Ledger.pass.Goals as goal
 
 pub put-requires : goal.put-requires
 put-requires g c =
-    let here : LedgerState g.row.S.Denot = record { desk = c.self.inside.desk; state = c.self.inside.state; limit = c.self.inside.limit; oldest = c.self.inside.oldest; number = c.self.inside.number; margin_at = c.self.inside.margin_at; tail = c.self.inside.tail } in
+    let here : LedgerState g.row.S.Denot = record { desk = c.self.inside.desk; state = c.self.inside.state; limit = c.self.inside.limit; keep = c.self.inside.keep; number = c.self.inside.number; margin_at = c.self.inside.margin_at; tail = c.self.inside.tail } in
     let found : FoundState = record { receiver = c.found.inside.receiver; from = c.found.inside.from; place = c.found.inside.place; history = c.found.inside.front } in
     let well : is_some c.self.inside.desk.fault ≡ false = search rules in
     let current : IsCurrent here found = subst (λ l. IsCurrent l found) (sym c.self.view_is) (subst (λ f. IsCurrent c.args.self.now f) (sym c.found.view_is) (c.if-not-is_current.ensures.0 refl)) in

@@ -8,7 +8,7 @@ use Rattle.gw_ledger.proofs.ledger.Ledger.put_accepted.Goals as goal
 
 pub put-requires : goal.put-requires
 put-requires g c =
-    let here : LedgerState g.row.S.Denot = record { desk = c.self.inside.desk; state = c.self.inside.state; limit = c.self.inside.limit; oldest = c.self.inside.oldest; number = c.self.inside.number; margin_at = c.self.inside.margin_at; tail = c.self.inside.tail } in
+    let here : LedgerState g.row.S.Denot = record { desk = c.self.inside.desk; state = c.self.inside.state; limit = c.self.inside.limit; keep = c.self.inside.keep; number = c.self.inside.number; margin_at = c.self.inside.margin_at; tail = c.self.inside.tail } in
     let look : LookState = record { place = c.look.inside.place; history = c.look.inside.front } in
     let well : is_some c.self.inside.desk.fault ≡ false = subst (λ (l : LedgerState g.row.S.Denot). is_some l.desk.fault ≡ false) (sym c.self.view_is) c.requires.well in
     let force : IsInForce here look = subst (λ l. IsInForce l look) (sym c.self.view_is) (subst (λ k. IsInForce c.args.self.now k) (sym c.look.view_is) c.requires.in_force) in

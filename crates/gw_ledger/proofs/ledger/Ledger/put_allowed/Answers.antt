@@ -22,6 +22,7 @@ invariant_of-self-2 g c =
       number_above c.self.inside.state c.move_on.new.state e.event c.self.inside.number c.next_number-number.result c.move_on.ensures c.next_number-number.ensures c.self.invariant.2,
       margin_kept g.J.Naming.before c.self.inside.state c.move_on.new.state e c.in_ok-bytes.bytes.items c.self.inside.margin_at c.note_margin.new.last c.in_ok-ticket.ticket
           c.move_on.ensures c.note_margin.ensures c.in_ok-bytes.ensures.ok c.in_ok-ticket.ensures.put c.self.invariant.3,
+      c.self.invariant.4,
     )
 
 pub returns-clause-ok : goal.returns-clause-ok
@@ -33,7 +34,7 @@ returns-clause-ok g c =
       desk = c.self.inside.desk;
       state = c.self.inside.state;
       limit = c.self.inside.limit;
-      oldest = c.self.inside.oldest;
+      keep = c.self.inside.keep;
       number = c.self.inside.number;
       margin_at = c.self.inside.margin_at;
       tail = c.self.inside.tail;

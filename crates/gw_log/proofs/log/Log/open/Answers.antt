@@ -32,7 +32,7 @@ pub returns-clause-head : goal.returns-clause-head
 returns-clause-head g c = λ honest.
     let same = ap (λ (s : SegmentState g.row.D.Denot). s.disk) c.over.ensures in
     let number = ap (λ (s : SegmentState g.row.D.Denot). s.number) c.over.ensures in
-    head_at c.args.id c.over.result.number c.in-Ok.found.number c.in-Ok.found.place.first c.in-Ok.found.place.before c.in-Ok.found.place.oldest
+    head_at c.args.id c.over.result.number c.in-Ok.found.number c.in-Ok.found.place.first c.in-Ok.found.place.before c.in-Ok.found.place.keep
     (g.D.Disk.seen c.args.disk) number (c.in-Ok.ensures.head (subst g.D.Disk.honest same honest))
 
 pub returns-clause-behind : goal.returns-clause-behind

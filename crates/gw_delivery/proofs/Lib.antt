@@ -1,0 +1,6 @@
+pub mod Crossing
+pub mod Seeing
+pub mod Making
+pub mod Delivering
+pub mod Calling
+pub mod Crashing

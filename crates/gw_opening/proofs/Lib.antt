@@ -1,0 +1,5 @@
+mod Alike
+mod Reading
+mod Denying
+mod Founding
+mod Standing

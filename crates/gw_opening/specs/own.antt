@@ -1,0 +1,2 @@
+-- The program's own words: no public contract rests on them.
+pub mod Alike

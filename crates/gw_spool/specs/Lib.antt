@@ -1,9 +1,0 @@
-pub mod Device
-pub mod File
-pub mod State
-pub mod Memory
-pub mod Numbers
-pub mod own
-pub mod Mirrors
-pub mod Folder
-pub mod Rows
