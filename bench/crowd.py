@@ -17,7 +17,8 @@ class Crowd:
 
     def __init__(self, room, count, senders, names, *forms):
         program = Path(room) / "crowd"
-        subprocess.run(["rustc", "-O", "--edition", "2021", TOP / "bench/crowd.rs", "-o", program], check=True)
+        if not program.exists():
+            subprocess.run(["rustc", "-O", "--edition", "2021", TOP / "bench/crowd.rs", "-o", program], check=True)
         self.process = subprocess.Popen([program, str(count), str(senders), str(len(names))], stdin=subprocess.PIPE, stdout=subprocess.PIPE, text=True, bufsize=1)
         self.names, self.gone = names, dict.fromkeys(names, False)
         self.ports = dict(zip(names, self.process.stdout.readline().split()))
@@ -29,7 +30,7 @@ class Crowd:
         self.process.stdin.write(line + "\n")
 
     def look(self):
-        """How many messages were accepted, and how many senders send."""
+        """How many messages were accepted, how many senders send, and how many messages were acknowledged."""
         self.tell("look")
         return map(int, self.process.stdout.readline().split())
 

@@ -2,7 +2,7 @@
 //!
 //! It prints the ports of its receivers. Then each line of its input is a word. `form DIGITS R R ..` is a message in hexadecimal digits,
 //! with `CONTROLID` for MSH-10, and the receivers that it goes to; senders take turns at the forms. `go PORT` starts the senders,
-//! `gone R` and `there R` take receiver R away and back, `look` prints how many messages were accepted and how many senders send,
+//! `gone R` and `there R` take receiver R away and back, `look` prints how many messages were accepted, how many senders send, and how many messages were acknowledged,
 //! `rest` has the senders pause until `on`, `stop` ends them, and `end` prints what was found and ends it all.
 use std::error::Error;
 use std::io::{self, BufRead, BufReader, ErrorKind, Write};
@@ -23,6 +23,7 @@ type Outcome<T> = Result<T, Box<dyn Error + Send + Sync>>;
 #[derive(Default)]
 struct Shared {
     accepted: AtomicU64,
+    acknowledged: AtomicU64,
     rests: AtomicBool,
     is_over: AtomicBool,
     is_end: AtomicBool,
@@ -100,7 +101,12 @@ fn listener_at(port: Option<u16>) -> TcpListener {
 }
 
 /// Acknowledges each block of a connection, while the receiver is there.
-fn acknowledge(line: TcpStream, is_gone: impl Fn() -> bool, got: &mut Got) -> Outcome<()> {
+fn acknowledge(
+    line: TcpStream,
+    is_gone: impl Fn() -> bool,
+    got: &mut Got,
+    count: &AtomicU64,
+) -> Outcome<()> {
     line.set_nodelay(true)?;
     line.set_read_timeout(Some(Duration::from_millis(50)))?;
     let mut reader = BufReader::with_capacity(65_536, line.try_clone()?);
@@ -119,6 +125,7 @@ fn acknowledge(line: TcpStream, is_gone: impl Fn() -> bool, got: &mut Got) -> Ou
         got.take(sender, number);
         let head = b"\x0bMSH|^~\\&|||||||ACK|R|P|2.5.1\rMSA|AA|";
         line.write_all(&[head, control, b"\r\x1c\r"].concat())?;
+        count.fetch_add(1, Relaxed);
         block.clear();
     }
     Ok(())
@@ -147,7 +154,7 @@ fn receive(listener: TcpListener, senders: usize, is_gone: &AtomicBool, shared: 
                 got.lines += 1;
                 // (that a gateway is killed ends its connections)
                 let is_gone = || is_gone.load(Relaxed) || shared.is_end.load(Relaxed);
-                let _ = acknowledge(line, is_gone, &mut got);
+                let _ = acknowledge(line, is_gone, &mut got, &shared.acknowledged);
             }
             Err(_) => thread::sleep(Duration::from_millis(5)),
         }
@@ -327,7 +334,8 @@ fn main() -> Outcome<()> {
             "stop" => shared.is_over.store(true, Relaxed),
             "look" => {
                 let running = sending.iter().filter(|it| !it.is_finished()).count();
-                println!("{} {running}", shared.accepted.load(Relaxed));
+                let acknowledged = shared.acknowledged.load(Relaxed);
+                println!("{} {running} {acknowledged}", shared.accepted.load(Relaxed));
             }
             _ => break,
         }
