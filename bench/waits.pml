@@ -40,6 +40,7 @@ bool here = true;                   /* the storage lies under the lock: no threa
 bool has_failed = false;
 bit batch;                          /* whether the number of the batch that was begun last is odd */
 byte on_news[THREADS];              /* who sleeps on a condition of the journal: 1: `even`, 2: `odd` */
+byte begun[THREADS];                /* the condition of the batch that a thread syncs, or rings for */
 byte plan = 1;                      /* the receivers of the plan in force, a bit for each */
 
 #define has(set, r) ((set >> r) & 1)
@@ -57,12 +58,12 @@ bool has_ended = false;             /* Hub::stop, Hub::fail */
 byte gone;                          /* how many of sessions and words have ended */
 bool has_begun;                     /* where both sessions have as many messages they are alike, and the first goes first */
 
-/* Desk::take, Ledger::take, and the number of the batch */
+/* Desk::take, Ledger::take, and the number of the batch, which `settle` keeps */
 inline take_one(i) { if :: last[i] == fresh -> last[i] = given :: else fi }
-inline take() {
+inline take(me) {
     take_one(0); take_one(1); take_one(2); take_one(3); take_one(4);
     given_for[0] = fresh_for[0]; given_for[1] = fresh_for[1]; fresh_for[0] = 0; fresh_for[1] = 0;
-    here = false; batch = 1 - batch
+    here = false; batch = 1 - batch; begun[me] = THIS
 }
 
 /* Desk::give_back: what was given counts */
@@ -73,7 +74,8 @@ inline give_back() {
     here = true
 }
 
-/* Journal::ring: all who wait for the batch, and one of those who wait for the next; at a fault all */
+/* Journal::ring, with the lock free: all who wait for the batch, then one of those who wait for the next; at a fault all, the ones after the others.
+   Another thread may have begun the next batch meanwhile, or have brought it to its end */
 inline wake(i, which) { if :: on_news[i] == which -> on_news[i] = 0 :: else fi }
 inline wake_all(which) { wake(0, which); wake(1, which); wake(2, which); wake(3, which); wake(4, which) }
 inline wake_one(which) {
@@ -87,21 +89,21 @@ inline wake_one(which) {
     fi
 }
 #if MISSING == 1
-inline ring_all() { skip }
+inline ring_all(me) { skip }
 #elif MISSING == 2
-inline ring_all() { wake_one(THIS) }
+inline ring_all(me) { wake_one(begun[me]) }
 #else
-inline ring_all() { d_step { wake_all(THIS) } }
+inline ring_all(me) { d_step { wake_all(begun[me]) } }
 #endif
 #if MISSING == 6
-inline ring_one() { skip }
+inline ring_one(me) { skip }
 #else
-inline ring_one() { wake_one(NEXT) }
+inline ring_one(me) { wake_one(3 - begun[me]) }
 #endif
 #if MISSING == 3
-inline ring_failed() { skip }
+inline ring_others(me) { skip }
 #else
-inline ring_failed() { d_step { wake_all(1); wake_all(2) } }
+inline ring_others(me) { d_step { wake_all(3 - begun[me]) } }
 #endif
 
 /* Journal::bell_of */
@@ -119,14 +121,14 @@ inline settle(me) {
         :: last[me] == stored -> break
         :: last[me] != stored && has_failed -> lost = true; break
         :: last[me] != stored && !has_failed && !here -> on_news[me] = BELL
-        :: last[me] != stored && !has_failed && here -> d_step { take() }; goto sync
+        :: last[me] != stored && !has_failed && here -> d_step { take(me) }; goto sync
         fi }
     od;
     goto settled;
 sync: /* Job::run, with the lock free; what was given has the thread's own record */
     if
-    :: atomic { d_step { give_back() }; ring_all(); ring_one() }
-    :: atomic { has_failed = true; ring_failed(); lost = true }
+    :: d_step { give_back() }; atomic { ring_all(me) }; atomic { ring_one(me); begun[me] = 0 }
+    :: has_failed = true; atomic { ring_all(me) }; atomic { ring_others(me); begun[me] = 0; lost = true }
     fi;
 settled:
     skip

@@ -65,9 +65,8 @@ impl<J: Naming, B: Books<J> + Drop> Journal<J, B> {
         }
     }
 
-    // The batch that was begun last is on the disk, or there was a fault: who waits for it goes on, and one of those who wait for the next begins that.
-    fn ring(&self, is_well: bool) {
-        let batch = self.batches.load(Ordering::SeqCst);
+    // The batch of this number is on the disk, or there was a fault: who waits for it goes on, and one of those who wait for the next begins that.
+    fn ring(&self, batch: u64, is_well: bool) {
         self.bell(batch).notify_all();
         let next = self.bell(batch.wrapping_add(1));
         if is_well {
@@ -93,7 +92,7 @@ impl<J: Naming, B: Books<J> + Drop> Journal<J, B> {
             let count = books.count();
             match books.take(self.alloc) {
                 Some(job) => {
-                    self.batches.fetch_add(1, Ordering::SeqCst);
+                    let batch = self.batches.fetch_add(1, Ordering::SeqCst);
                     self.given.store(count, Ordering::SeqCst);
                     drop(books);
                     let done = B::run(job);
@@ -102,7 +101,11 @@ impl<J: Naming, B: Books<J> + Drop> Journal<J, B> {
                         Ok(done) => books.give_back(done),
                         Err(fault) => books.fail(fault),
                     }
-                    self.ring(books.fault().is_none());
+                    let is_well = books.fault().is_none();
+                    // (who is woken needs the lock)
+                    drop(books);
+                    self.ring(batch.wrapping_add(1), is_well);
+                    books = self.books.lock(rt);
                 }
                 None => books = self.bell_of(ticket).wait(rt, books),
             }

@@ -110,7 +110,6 @@ fn go_on<
     most: u64,
 ) {
     listen_briefly(senders.as_raw_fd());
-    look_at_disk(hub);
     thread::scope(
         thread::scope_env(),
         hub.rt,
@@ -228,6 +227,7 @@ fn keep<
     let hub = begin(rt, ledger, plan, start, &folder)?;
     print_waiting(&hub);
     begin_lines(&hub)?;
+    look_at_disk(&hub);
     let control = control::listen(rt, path)?;
     let senders = listen(rt, words)?;
     let pages = Pages::listen(rt, words)?;
