@@ -2,7 +2,7 @@
  *
  *     spin -a bench/waits.pml && cc -O2 -DSAFETY -DCOLLAPSE -DMEMLIM=3000 -o pan pan.c && ./pan
  *
- * It takes half a minute.
+ * It takes two minutes, and 2 GB of memory.
  * Without an error there is no deadlock and no lost wake-up. An "invalid end state" is a thread that waits for ever. The assertion of `Stop` fails where
  * nothing more happens and a message is left. What it has: two sessions, two receivers, an install that brings the second receiver and may take the first one out,
  * a stop and a failing disk at any time, connections that end at any time. With `-DMISSING=1` to 7 one wake-up is left out, or wakes another,
