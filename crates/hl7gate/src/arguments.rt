@@ -87,6 +87,11 @@ const FORMS: &[Form] = &[
                 "",
                 "Prints the values that break the profile too: they may be a patient's",
             ),
+            (
+                "unlisted",
+                "",
+                "Prints too what messages have that the profile doesn't list, and in how many messages",
+            ),
         ],
     },
     Form {

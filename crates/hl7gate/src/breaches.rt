@@ -3,6 +3,7 @@ use crate::ended::Ended;
 use crate::files::read_text;
 use crate::maps::parse_profile;
 use crate::report::{print_if_none, status_if, write_all};
+use crate::unlisted::Unlisted;
 use clap::ArgMatches;
 use gw_diagnostics::{BreachReport, Form};
 use gw_mllp::{Decoder, FrameFault};
@@ -14,10 +15,17 @@ use std::rt::Files;
 /// How many bytes are read at once.
 const PIECE: usize = 65_536;
 
+/// What is reported of a stream: breaches, and, where it is asked for, what the profile doesn't list.
+#[derive(Drop)]
+struct Reports {
+    breaches: BreachReport,
+    unlisted: Option<Unlisted>,
+}
+
 /// Reports what came in the frames that have ended.
 fn add_all(
     alloc: Global,
-    breaches: &mut BreachReport,
+    reports: &mut Reports,
     decoder: &mut Decoder,
     out: &mut Vec<u8>,
 ) -> Result<(), AllocError> {
@@ -26,7 +34,10 @@ fn add_all(
         let Some(content) = decoder.next_block() else {
             return Ok(());
         };
-        breaches.add(alloc, content, out)?;
+        if let Some(unlisted) = reports.unlisted.as_mut() {
+            unlisted.add(alloc, &content)?;
+        }
+        reports.breaches.add(alloc, content, out)?;
     }
     Ok(())
 }
@@ -57,7 +68,7 @@ fn frame_fault(fault: FrameFault) -> RunFault {
 /// Reports all messages of a stream.
 fn report_all<I: Read, O: Write>(
     alloc: Global,
-    breaches: &mut BreachReport,
+    reports: &mut Reports,
     input: &mut I,
     output: &mut O,
 ) -> Result<(), RunFault> {
@@ -68,7 +79,7 @@ fn report_all<I: Read, O: Write>(
         let at_end = piece.is_empty();
         let fed = decoder.feed(piece);
         let mut out = Vec::new(alloc);
-        add_all(alloc, breaches, &mut decoder, &mut out)?;
+        add_all(alloc, reports, &mut decoder, &mut out)?;
         write_all(output, &out)?;
         if let Err(fault) = fed {
             return Err(frame_fault(fault));
@@ -97,14 +108,26 @@ pub(crate) fn report<'a, R: Files + AllocGlobal, I: Read, O: Write + IsTerminal,
         has_values: words.get_flag("values"),
         has_colours: output.is_terminal(),
     };
-    let mut breaches = BreachReport::new(alloc, profile, &text, form)?;
-    let reported = report_all(alloc, &mut breaches, input, output);
+    let unlisted = if words.get_flag("unlisted") {
+        let copy = profile.clone()?;
+        Some(Unlisted::new(alloc, copy, form.has_values)?)
+    } else {
+        None
+    };
+    let mut reports = Reports {
+        breaches: BreachReport::new(alloc, profile, &text, form)?,
+        unlisted,
+    };
+    let reported = report_all(alloc, &mut reports, input, output);
     if let Err(RunFault::Memory) = reported {
         // (the message at which it ended is counted, and not reported)
         return Err(Ended::Run(RunFault::Memory));
     }
-    write_all(output, &breaches.end(alloc)?)?;
+    write_all(output, &reports.breaches.end(alloc)?)?;
+    if let Some(unlisted) = &reports.unlisted {
+        write_all(output, &unlisted.end(alloc, form.is_json)?)?;
+    }
     reported?;
-    print_if_none(errors, breaches.messages());
-    Ok(status_if(breaches.all_conform()))
+    print_if_none(errors, reports.breaches.messages());
+    Ok(status_if(reports.breaches.all_conform()))
 }

@@ -33,6 +33,7 @@ mod swaps;
 mod tell;
 mod threads;
 mod tickets;
+mod unlisted;
 
 use arguments::{parse, process_words};
 use clap::ArgMatches;
