@@ -10,6 +10,7 @@ mod doors;
 mod ended;
 mod explain;
 mod files;
+mod framing;
 mod gateway;
 mod hands;
 mod heap;

@@ -28,7 +28,7 @@ pub(crate) fn print_if_none<E: Write>(errors: &mut E, messages: u64) {
     if messages == 0 {
         let _ = writeln!(
             errors,
-            "no framed message was found on standard input; examples/frame FILE .. prints files as framed messages"
+            "no framed message was found on standard input; examples/frame (hl7gate-frame) prints files as framed messages, and with --split a file of many"
         );
     }
 }

@@ -1,6 +1,7 @@
 //! A service: what its threads share, and what each of them does.
 
 use crate::doors::{Reporter, Who};
+use crate::framing::Watched;
 use crate::heard::{Heard, Unacknowledged, sent_in};
 use crate::outcome::Outcome;
 use crate::stamps::Utc;
@@ -301,7 +302,8 @@ impl<L: Ledger, R: Wait + AllocGlobal + Clock + Eprint> Service<'_, L, R> {
             return Err(RunFault::Memory);
         };
         let mut clock = Utc::new(self.rt, self.start);
-        let mut reader = Reads::new(stream);
+        let mut watched = Watched::new(self.rt, stream, number);
+        let mut reader = Reads::new(&mut watched);
         let mut writer = Writes::new(stream);
         let answered = session(
             self.rt.alloc(),

@@ -1,4 +1,5 @@
 //! A message that is too long: it is answered AR where its first segment came, before its connection ends.
+use crate::framing::{CR, VT};
 use crate::gateway::hub::Hub;
 use crate::gateway::refusals::Logged;
 use crate::gateway::senders::Sender;
@@ -22,11 +23,6 @@ const LOOK: u64 = 20;
 
 /// How many bytes are read at once.
 const PIECE: usize = 65_536;
-
-/// The byte that begins a message, and the one that ends a segment.
-const VT: u8 = 0x0b;
-
-const CR: u8 = 0x0d;
 
 /// The first segment of the message that begins in these bytes, with its CR, if it came.
 fn first_segment(bytes: &[u8]) -> Option<&[u8]> {

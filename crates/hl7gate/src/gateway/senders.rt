@@ -50,7 +50,7 @@ fn answer<J: Naming, S: Storage + Drop, R: Wait + AllocGlobal + Clock + Eprint>(
     sender: &Sender,
 ) -> Result<Counts, RunFault> {
     let alloc = hub.rt.alloc();
-    let mut sent = Sent::new(alloc, hub, &sender.stream);
+    let mut sent = Sent::new(alloc, hub, sender);
     let clock = Utc::new(hub.rt, hub.start);
     let bells = Ringing { hub };
     let mut judge = AtLog::new(alloc, hub.rt, &hub.journal, clock, &bells);

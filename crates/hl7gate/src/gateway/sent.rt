@@ -1,21 +1,18 @@
 //! What a sender sends, as a session reads it.
+use crate::framing::{FS, Framing, VT};
 use crate::gateway::hub::Hub;
+use crate::gateway::senders::Sender;
 use crate::sockets::pause;
 use gw_journal::{Naming, Storage};
 use memchr::{memchr, memrchr};
 use std::alloc::{AllocError, Global};
 use std::io;
-use std::io::{Error, ErrorKind, Read};
+use std::io::{Eprint, Error, ErrorKind, Read};
 use std::mem::swap;
 use std::net::TcpStream;
 use std::sync::Wait;
 use std::sync::atomic::Ordering;
 use std::time::{Clock, Duration, Instant};
-
-/// The bytes that begin and end a message (MLLP Release 1).
-const VT: u8 = 0x0b;
-
-const FS: u8 = 0x1c;
 
 /// How many bytes of a message's beginning are kept.
 const BEGINNING: usize = 16_384;
@@ -90,13 +87,15 @@ pub(crate) struct Sent<'a, 'f, J: Naming, S: Storage + Drop, R: Wait> {
     hub: &'a Hub<'f, J, S, R>,
     stream: &'a TcpStream,
     stand: Stand,
+    framing: Framing,
     silent: u64,
     // since when it has a turn
     turn: Option<Instant>,
 }
 
-impl<'a, 'f, J: Naming, S: Storage + Drop, R: Wait + Clock> Sent<'a, 'f, J, S, R> {
-    pub(crate) fn new(alloc: Global, hub: &'a Hub<'f, J, S, R>, stream: &'a TcpStream) -> Self {
+impl<'a, 'f, J: Naming, S: Storage + Drop, R: Wait + Clock + Eprint> Sent<'a, 'f, J, S, R> {
+    pub(crate) fn new(alloc: Global, hub: &'a Hub<'f, J, S, R>, sender: &'a Sender) -> Self {
+        let stream = &sender.stream;
         let _ = stream.set_read_timeout(Some(Duration::from_millis(LOOK)));
         Sent {
             hub,
@@ -107,6 +106,7 @@ impl<'a, 'f, J: Naming, S: Storage + Drop, R: Wait + Clock> Sent<'a, 'f, J, S, R
                 beginning: Vec::new(alloc),
                 ended: Vec::new(alloc),
             },
+            framing: Framing::new(sender.number),
             silent: 0,
             turn: None,
         }
@@ -167,6 +167,7 @@ impl<'a, 'f, J: Naming, S: Storage + Drop, R: Wait + Clock> Sent<'a, 'f, J, S, R
 
     // Nothing came in time. False: the session ends here.
     fn goes_on(&mut self) -> io::Result<bool> {
+        self.framing.wait(self.hub.rt);
         let has_ended = self.hub.has_ended();
         if !self.stand.is_within {
             self.silent = 0;
@@ -181,7 +182,7 @@ impl<'a, 'f, J: Naming, S: Storage + Drop, R: Wait + Clock> Sent<'a, 'f, J, S, R
     }
 }
 
-impl<J: Naming, S: Storage + Drop, R: Wait + Clock> Read for Sent<'_, '_, J, S, R> {
+impl<J: Naming, S: Storage + Drop, R: Wait + Clock + Eprint> Read for Sent<'_, '_, J, S, R> {
     fn read(&mut self, buf: &mut [u8]) -> io::Result<usize> {
         if !self.stand.is_within {
             // (what came before is answered)
@@ -194,10 +195,14 @@ impl<J: Naming, S: Storage + Drop, R: Wait + Clock> Read for Sent<'_, '_, J, S, 
         for _ in 0..u64::MAX {
             let mut stream = self.stream;
             match stream.read(buf) {
-                Ok(0) => return Ok(0),
+                Ok(0) => {
+                    self.framing.end(self.hub.rt);
+                    return Ok(0);
+                }
                 Ok(count) => {
                     self.silent = 0;
                     let count = count.min(buf.len());
+                    self.framing.take(self.hub.rt, &buf[..count]);
                     self.stand.take(&buf[..count])?;
                     return Ok(count);
                 }
