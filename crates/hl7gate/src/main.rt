@@ -3,6 +3,7 @@
 //! `program::command` does it over any reader and two writers, but for `serve`, `gateway` and `tell`, which also take the network or threads; here are the process's own.
 #![tactic(auto)]
 
+mod again;
 mod arguments;
 mod breaches;
 mod contents;
@@ -28,6 +29,7 @@ mod sample;
 mod serve;
 mod sockets;
 mod stamps;
+mod store;
 mod streams;
 mod swaps;
 mod tell;
