@@ -121,3 +121,43 @@ def given_up(gateway):
     same("replay", (0, "replayed 1; the log keeps places from 6 on\n"), gateway.tell("replay", "WARDS", "20261130000000", "20261130235959"))
     gateway.receivers["WARDS"].has(LEFT["WARDS"][:1], gateway.until)
     gateway.kill()
+
+
+def passed_over(gateway):
+    """`skip` passes over what is first for a receiver that says nothing to it, and `park` has it lie with what was refused, from where `resend` sends it again."""
+    gateway.play(WARDS=Receiver(codes=[b"", b"", b"AA"]), ARCHIVE=Receiver())
+    lay(gateway, chain([[*begun(gateway), *(report(it, [1], b"LAB000%d" % it) for it in (1, 2, 3))]]))
+    gateway.start()
+    wards = gateway.receivers["WARDS"]
+    its = [LEFT["WARDS"][0].replace(b"LAB0007", b"LAB000%d" % it) for it in (1, 2, 3)]
+    wards.has(its[:1], gateway.until)
+    same("skip", (0, "skipped 4\n"), gateway.tell("skip", "WARDS"))
+    wards.has(its[:2], gateway.until)
+    same("park", (0, "parked 5\n"), gateway.tell("park", "WARDS"))
+    wards.has(its, gateway.until)
+    how = lambda control: gateway.tell("find", control)[1].splitlines()[1].split(" ", 2)[2]
+    same("the first", "the message at 4 was skipped for WARDS (1)", how("LAB0001"))
+    same("the second", "WARDS (1) refused the message at 5, code 3", how("LAB0002"))
+    same("the third", "WARDS (1) took the message at 6", gateway.once("WARDS (1) took the message at 6", lambda: how("LAB0003")))
+    same("skip of nothing", (1, "refused: nothing waits for WARDS\n"), gateway.tell("skip", "WARDS"))
+    same("skip for nobody", NO_RECEIVER, gateway.tell("skip", "NOBODY"))
+    same("resend", (0, "resent 1\n"), gateway.tell("resend", "WARDS"))
+    wards.has([*its, its[1]], gateway.until)
+    gateway.kill()
+
+
+def passed_away(gateway):
+    """What is first is passed over too where its receiver is held, or isn't there."""
+    gateway.play(WARDS=Receiver(), ARCHIVE=Receiver())
+    wards = gateway.receivers["WARDS"]
+    lay(gateway, chain([[*begun(gateway), *(report(it, [1], b"LAB000%d" % it) for it in (1, 2, 3))]]))
+    wards.close()
+    gateway.start()
+    gateway.wait("receiver WARDS can't be connected; it is tried until it is")
+    same("skip while it is gone", (0, "skipped 4\n"), gateway.tell("skip", "WARDS"))
+    gateway.tell("hold", "WARDS")
+    same("skip while it is held", (0, "skipped 5\n"), gateway.tell("skip", "WARDS"))
+    wards.open(wards.port)
+    gateway.tell("go", "WARDS")
+    wards.has([LEFT["WARDS"][0].replace(b"LAB0007", b"LAB0003")], gateway.until)
+    gateway.kill()

@@ -23,4 +23,4 @@ mod watch;
 pub(crate) use command::gateway;
 pub(crate) use control::control_path;
 pub(crate) use hub::Hub;
-pub(crate) use lines::Line;
+pub(crate) use lines::{Line, Over};

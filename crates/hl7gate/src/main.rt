@@ -5,6 +5,7 @@
 
 mod again;
 mod arguments;
+mod asked;
 mod breaches;
 mod contents;
 mod doors;

@@ -1,9 +1,9 @@
-//! Words that read the log's files. A thread of its own answers them, and it looks at the files: so none goes while a word is answered.
-use crate::again::{replay, resend, resend_at};
+//! Words that read the log's files. A thread of its own answers them. It looks which files are needed too: so no look comes between what it reads and puts.
+use crate::asked::answer_to;
 use crate::gateway::hub::Hub;
 use crate::gateway::late::look_at_files;
 use crate::runtime::Runtime;
-use crate::store::{Unanswered, find, show};
+use crate::store::Unanswered;
 use gw_delivery::PageFault;
 use gw_journal::{Naming, Storage};
 use std::alloc::{AllocError, Global};
@@ -53,56 +53,8 @@ impl Asks {
 /// Whether a line is a word that reads the log.
 pub(crate) fn reads_log(line: &str) -> bool {
     match line.split_once(' ') {
-        Some(("find" | "show" | "resend" | "replay", rest)) => !rest.is_empty(),
+        Some(("find" | "show" | "resend" | "replay" | "skip" | "park", rest)) => !rest.is_empty(),
         _ => false,
-    }
-}
-
-/// The answer to `resend`: of a receiver, or of a place and perhaps a receiver.
-fn resend_by<J: Naming, S: Storage + Drop, R: Runtime + Wait>(
-    hub: &Hub<'_, J, S, R>,
-    rest: &str,
-) -> Result<String, Unanswered> {
-    let alloc = hub.rt.alloc();
-    if let Some(line) = hub.lines.named(hub.rt, rest.as_bytes()) {
-        return resend(hub, &line);
-    }
-    let (place, name) = rest.split_once(' ').unwrap_or((rest, ""));
-    let line = hub.lines.named(hub.rt, name.as_bytes());
-    match (place.parse::<u64>(), line) {
-        (Ok(place), None) if name.is_empty() => resend_at(hub, place, None),
-        (Ok(place), Some(line)) => resend_at(hub, place, Some(line.number)),
-        _ => Ok(format!(in alloc; "refused: no receiver of the plan has this name\n")?),
-    }
-}
-
-/// The answer to `replay`.
-fn replay_by<J: Naming, S: Storage + Drop, R: Runtime + Wait>(
-    hub: &Hub<'_, J, S, R>,
-    rest: &str,
-) -> Result<String, Unanswered> {
-    let alloc = hub.rt.alloc();
-    let (name, span) = rest.split_once(' ').unwrap_or((rest, ""));
-    match hub.lines.named(hub.rt, name.as_bytes()) {
-        Some(line) => replay(hub, &line, span.split_once(' ').unwrap_or((span, ""))),
-        None => Ok(format!(in alloc; "refused: no receiver of the plan has this name\n")?),
-    }
-}
-
-/// The answer to a line.
-fn answer_to<J: Naming, S: Storage + Drop, R: Runtime + Wait>(
-    hub: &Hub<'_, J, S, R>,
-    line: &str,
-) -> Result<String, Unanswered> {
-    let alloc = hub.rt.alloc();
-    let (word, rest) = line.split_once(' ').unwrap_or((line, ""));
-    let (place, values) = rest.split_once(' ').unwrap_or((rest, ""));
-    match (word, place.parse::<u64>()) {
-        ("find", _) => find(hub, rest),
-        ("resend", _) => resend_by(hub, rest),
-        ("replay", _) => replay_by(hub, rest),
-        (_, Ok(place)) => show(hub, place, values == "--values"),
-        _ => Ok(format!(in alloc; "refused: a place is a number\n")?),
     }
 }
 
