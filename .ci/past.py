@@ -258,6 +258,40 @@ def lies_refused(gateway):
         gateway.kill()
 
 
+def kept_again(gateway):
+    """A file that nobody needs any more stays where a message in it was sent again by `resend`, until that was taken."""
+    gateway.until += 90
+    one = Receiver()
+    gateway.receivers = {"ONE": one}
+    (gateway.room / "plan").write_text(plan_for({"ONE": one.address}))
+    text, address = (gateway.room / "plan").read_bytes(), one.address.encode()
+    plan = planned(NOW, text)
+    first = [named(NOW, 1, b"ONE", address), plan, margin(NOW, 10_001), accepted(NOW, 1, [1], bulk(0)), passed(NOW, 1, 3, TAKEN)]
+    second = [plan, accepted(NOW, 2, [1], bulk(0)), passed(NOW, 1, 6, TAKEN)]
+    checkpoints = {2: state(5, [(1, b"ONE", address, 4)], plan=1, last=1, below=10_001), 3: state(8, [(1, b"ONE", address, 7)], plan=5, last=2, below=10_001)}
+    third = [plan]
+    for at in range(LARGE):
+        third = [*third, accepted(NOW, 3 + at, [1], bulk()), passed(NOW, 1, 8 + len(third), TAKEN)]
+    last = lambda size: [accepted(NOW, 3 + LARGE, [1], bulk(size)), passed(NOW, 1, 8 + len(third), TAKEN)]
+    lay(gateway, nearly_long(lambda size: chain([first, second, [*third, *last(size)]], checkpoints=checkpoints)))
+    one.close()
+    gateway.start()
+    # (so that the files have been looked at)
+    rests(gateway)
+    same("resend", (0, "resent 1\n"), gateway.tell("resend", "6"))
+    rests(gateway)
+    sent = [message(b"LAST%02d" % at) for at in range(12)]
+    same("answers", [b"AA"] * 12, codes(gateway.ask(sent)))
+    files = lambda: sorted(int(it.name.split(".")[0]) for it in gateway.folder.glob("*.segment"))
+    same("which files the log has", [2, 3, 4], gateway.once([2, 3, 4], files))
+    same("resend of what is gone", (1, "refused: the log keeps places from 5 on\n"), gateway.tell("resend", "3"))
+    gateway.stop()
+    one.open(one.port)
+    gateway.start()
+    one.has([b"\x0b" + bulk(0) + b"\x1c\r", *sent], gateway.until)
+    gateway.kill()
+
+
 def by_run(gateway):
     """The day by `run`, and by the gateway: the receivers get the same, byte for byte, and senders the same answers, but for their times."""
     gateway.play(WARDS=Receiver(), ARCHIVE=Receiver())

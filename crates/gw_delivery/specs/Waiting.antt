@@ -2,7 +2,7 @@
 use Rattle.std.specs.Prelude.{◌≡◌, ◌⊎◌, ⊤, ℕ, Bool, true, false, List, [], ◌∷◌, Option, None, Some, IsNone}
 use Rattle.gw_ack.specs.declared.receipt.Ack.{Ack}
 use Rattle.gw_ack.specs.declared.receipt.Ack.TheVariants.{AA, AE, AR}
-use Rattle.gw_due.specs.Events.{How, Taken, Refused, Passed}
+use Rattle.gw_due.specs.Events.{How, Taken, Refused, Skipped, Passed}
 use Rattle.gw_due.specs.Spelling.{spelled}
 use Rattle.gw_journal.specs.declared.event.Event as happened
 use Rattle.gw_journal.specs.Logs.{IsStored, log_in}
@@ -112,6 +112,16 @@ pub record PassesNext (before : List (List ℕ)) (old new : WaitingState) (passe
 abbrev pub Settles : List (List ℕ) → WaitingState → WaitingState → Ack → Bool → Type 0
 Settles before old new ack true = PassesNext before old new (how ack)
 Settles before old new ack false = new ≡ old
+
+-- how a receiver passes what a person had passed over: as skipped; or as refused where it is parked, so that it lies with what the receiver refused
+abbrev pub over : (is_parked : Bool) → How
+over false = Skipped
+over true = Refused 3 []
+
+-- the first that is left was passed over so, and isn't sent any more
+pub record PassesOver (before : List (List ℕ)) (old new : WaitingState) (passed : How) : Type 0 where
+  pub place : ℕ
+  pub passes : Passes before old new place passed
 
 -- The first that is left was passed as refused, and was not sent: it can't be made, or no block can have it
 pub record PutsAside (before : List (List ℕ)) (old new : WaitingState) : Type 0 where

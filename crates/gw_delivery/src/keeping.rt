@@ -148,8 +148,7 @@ impl<V: Calls + Drop> Keeper<V> {
     }
 
     /// The place of the first record of the first file that is needed, where what is left for receivers begins at this place.
-    /// The files before it are forgotten.
-    pub fn needed(&mut self, left: u64) -> u64 {
+    pub fn needed(&self, left: u64) -> u64 {
         let mut place = left;
         for one in self.refused.iter().chain(self.repeated.iter()) {
             place = place.min(one.place);
@@ -161,13 +160,6 @@ impl<V: Calls + Drop> Keeper<V> {
         for file in &self.files {
             if file.first <= place && file.has_plan {
                 needed = file.first;
-            }
-        }
-        for _ in 0..self.files.len() {
-            if let Some(file) = self.files.front()
-                && file.first < needed
-            {
-                let _unneeded = self.files.pop_front();
             }
         }
         needed

@@ -29,6 +29,8 @@ pub struct Pages<V: Calls + Drop> {
     place: u64,
     // of the plan in force there
     plan: Option<u64>,
+    // records at places below this one may be gone, by the head of the file that was opened last
+    kept: u64,
 }
 
 impl<V: Calls + Drop> Pages<V> {
@@ -41,6 +43,7 @@ impl<V: Calls + Drop> Pages<V> {
             at: 0,
             place: 0,
             plan: None,
+            kept: 0,
         }
     }
 
@@ -123,6 +126,7 @@ impl<V: Calls + Drop> Pages<V> {
         match State::read(self.alloc, head.checkpoint) {
             Ok(state) => {
                 self.place = head.first;
+                self.kept = head.keep;
                 self.plan = state.plan();
                 Ok(head.first)
             }
@@ -144,6 +148,14 @@ impl<V: Calls + Drop> Pages<V> {
             segment -= 1;
         }
         self.damaged()
+    }
+
+    /// Goes to the first record of the first file that doesn't go when the next one is begun, as long as no more records are given up. Its place.
+    pub fn seek_kept(&mut self, tail: Tail) -> Result<u64, PageFault> {
+        self.open(tail.segment, tail)?;
+        let kept = self.kept;
+        self.seek(tail, kept)?;
+        Ok(self.place)
     }
 
     /// The next record. None: it doesn't count yet, or there is none.

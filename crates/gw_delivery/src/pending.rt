@@ -4,7 +4,7 @@ ghost use Rattle.gw_ack.specs.declared.receipt.Ack.TheVariants.{AR};
 ghost use Rattle.gw_due.specs.Views as view;
 ghost use Rattle.gw_ledger.specs.Backlogs.{GoesOn, WasFirst};
 ghost use Rattle.gw_delivery.specs.Waiting as spec;
-ghost use Rattle.gw_delivery.specs.Waiting.{Closes, Gives, IsPassed, Keeps, Passes, PassesNext, PutsAside, Stays};
+ghost use Rattle.gw_delivery.specs.Waiting.{Closes, Gives, IsPassed, Keeps, Passes, PassesNext, PassesOver, PutsAside, Stays};
 
 use crate::fault::PageFault;
 use crate::finder::Finder;
@@ -141,6 +141,19 @@ fn how(ack: Ack) -> How<'static>
             reason: b"",
         },
     }
+}
+
+// How a receiver passes what is passed over.
+fn over(is_parked: bool) -> How<'static>
+    ensures { view.how result ≡ spec.over is_parked }
+{
+    if is_parked {
+        return How::Refused {
+            code: 3,
+            reason: b"",
+        };
+    }
+    How::Skipped
 }
 
 impl<'a, J: Naming, S: Storage + Drop, V: Calls + Drop, R: Wait, L: Line, T: Times> Pending<
@@ -353,6 +366,15 @@ impl<'a, J: Naming, S: Storage + Drop, V: Calls + Drop, R: Wait, L: Line, T: Tim
         if self.line.is_held() {
             return Ok(false);
         }
+        self.look()
+    }
+
+    /// Looks for what is next, also where the line is held back. True: it is known, and on the disk, or can't be told any more.
+    pub fn look(&mut self) -> Result<bool, OutboxFault>
+        ensures count { self.new.count ≡ self.old.count }
+        ensures stays { Stays J.before (record { receiver = self.old.receiver; name = self.old.name.now; backlog = self.old.backlog; next = self.old.next })
+            (record { receiver = self.new.receiver; name = self.new.name.now; backlog = self.new.backlog; next = self.new.next }) }
+    {
         if self.next.is_some() {
             return Ok(self.is_stored());
         }
@@ -426,10 +448,10 @@ impl<'a, J: Naming, S: Storage + Drop, V: Calls + Drop, R: Wait, L: Line, T: Tim
         Ok(place)
     }
 
-    // The receiver passes as refused what can't be made. Its place, why it can't, and what is left then.
-    fn refused(&self) -> Result<(u64, PageFault, Backlog<J>), OutboxFault>
+    // The receiver passes what can't be made. Its place, why it can't, and what is left then.
+    fn passed_unmade(&self, how: How<'_>) -> Result<(u64, PageFault, Backlog<J>), OutboxFault>
         ensures { IfOk result (λ x. Passes J.before (record { receiver = self.now.receiver; name = self.now.name.now; backlog = self.now.backlog; next = self.now.next })
-            (record { receiver = self.now.receiver; name = self.now.name.now; backlog = Some x.2; next = None }) x.0 (spec.how AR)) }
+            (record { receiver = self.now.receiver; name = self.now.name.now; backlog = Some x.2; next = None }) x.0 (view.how how.entry)) }
     {
         let Some(aside) = &self.finder.aside else {
             return Err(OutboxFault::Record);
@@ -439,7 +461,7 @@ impl<'a, J: Naming, S: Storage + Drop, V: Calls + Drop, R: Wait, L: Line, T: Tim
         };
         let (time, place, fault) = (self.times.time(), aside.0.place(), aside.1);
         let (rt, journal) = (self.finder.rt, self.finder.journal);
-        let (_receipt, left) = passed(rt, journal, time, backlog, &aside.0, how(Ack::AR))?;
+        let (_receipt, left) = passed(rt, journal, time, backlog, &aside.0, how)?;
         Ok((place, fault, left))
     }
 
@@ -450,7 +472,7 @@ impl<'a, J: Naming, S: Storage + Drop, V: Calls + Drop, R: Wait, L: Line, T: Tim
         ensures keeps { OnErr result (Keeps (record { receiver = self.old.receiver; name = self.old.name.now; backlog = self.old.backlog; next = self.old.next })
             (record { receiver = self.new.receiver; name = self.new.name.now; backlog = self.new.backlog; next = self.new.next })) }
     {
-        let (place, fault, left) = self.refused()?;
+        let (place, fault, left) = self.passed_unmade(how(Ack::AR))?;
         if !self.go_on(left) {
             return Err(OutboxFault::Disk);
         }
@@ -472,6 +494,24 @@ impl<'a, J: Naming, S: Storage + Drop, V: Calls + Drop, R: Wait, L: Line, T: Tim
         let place = self.pass(how(Ack::AR))?;
         self.line.unsendable(place, None);
         Ok(())
+    }
+
+    /// What is next is passed over: as skipped, or as refused where it is parked. Its place.
+    pub fn pass_over(&mut self, is_parked: bool) -> Result<u64, OutboxFault>
+        ensures over { OnOk result (PassesOver J.before (record { receiver = self.old.receiver; name = self.old.name.now; backlog = self.old.backlog; next = self.old.next })
+            (record { receiver = self.new.receiver; name = self.new.name.now; backlog = self.new.backlog; next = self.new.next }) (spec.over is_parked)) }
+        ensures keeps { OnErr result (Keeps (record { receiver = self.old.receiver; name = self.old.name.now; backlog = self.old.backlog; next = self.old.next })
+            (record { receiver = self.new.receiver; name = self.new.name.now; backlog = self.new.backlog; next = self.new.next })) }
+    {
+        if self.next.is_some() {
+            return self.pass(over(is_parked));
+        }
+        let (place, _fault, left) = self.passed_unmade(over(is_parked))?;
+        if !self.go_on(left) {
+            return Err(OutboxFault::Disk);
+        }
+        self.show();
+        Ok(place)
     }
 }
 

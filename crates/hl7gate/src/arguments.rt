@@ -215,13 +215,30 @@ const FORMS: &[Form] = &[
     },
     Form {
         name: "tell",
-        about: "Sends a word to the gateway that works in a folder, and prints its answer: status, swap PATH, install PATH, hold NAME, go NAME, resend NAME, stop",
+        about: "Sends a word to the gateway that works in a folder, and prints its answer: status, swap PATH, install PATH, hold NAME, go NAME, find CONTROL-ID, show PLACE, resend NAME or PLACE, replay NAME FROM TO, skip NAME, park NAME, stop",
         words: &[
             ("FOLDER", "The folder of the gateway"),
             ("WORD", "The word"),
         ],
-        optional: &[("ARGUMENT", "A plan's path, or a receiver's name")],
-        options: &[("json", "", "Prints the status as JSON")],
+        optional: &[
+            (
+                "ARGUMENT",
+                "A plan's path, a receiver's name, a control id, or a place of the log",
+            ),
+            (
+                "NEXT",
+                "Behind a place a receiver's name; behind a name the first second, YYYYMMDDHHMMSS in UTC",
+            ),
+            ("LAST", "The last second"),
+        ],
+        options: &[
+            ("json", "", "Prints the status as JSON"),
+            (
+                "values",
+                "",
+                "Shows the message too: it may have a patient's values",
+            ),
+        ],
     },
     Form {
         name: "log",

@@ -22,3 +22,5 @@ mod watch;
 
 pub(crate) use command::gateway;
 pub(crate) use control::control_path;
+pub(crate) use hub::Hub;
+pub(crate) use lines::{Line, Over};

@@ -3,7 +3,9 @@
 //! `program::command` does it over any reader and two writers, but for `serve`, `gateway` and `tell`, which also take the network or threads; here are the process's own.
 #![tactic(auto)]
 
+mod again;
 mod arguments;
+mod asked;
 mod breaches;
 mod contents;
 mod doors;
@@ -29,6 +31,7 @@ mod sample;
 mod serve;
 mod sockets;
 mod stamps;
+mod store;
 mod streams;
 mod swaps;
 mod tell;

@@ -10,16 +10,28 @@ use std::io::{ErrorKind, Read, Write};
 use std::net::{Net, Shutdown};
 use std::os::unix::net::UnixStream;
 
+/// The words behind the first.
+const REST: &[&str] = &["ARGUMENT", "NEXT", "LAST"];
+
 /// The line that the words are.
 fn line_of(alloc: Global, words: &ArgMatches<'_>) -> Result<String, AllocError> {
     let word = words.get_str("WORD").unwrap_or("");
     if words.get_flag("json") {
         return format!(in alloc; "{word} --json\n");
     }
-    match words.get_str("ARGUMENT") {
-        Some(argument) => format!(in alloc; "{word} {argument}\n"),
-        None => format!(in alloc; "{word}\n"),
+    let mut line = format!(in alloc; "{word}")?;
+    for name in REST {
+        if let Some(argument) = words.get_str(name) {
+            line.push_str(format!(in alloc; " {argument}")?.as_str())?;
+        }
     }
+    let end = if words.get_flag("values") {
+        " --values\n"
+    } else {
+        "\n"
+    };
+    line.push_str(end)?;
+    Ok(line)
 }
 
 /// What the gateway at this socket answers.

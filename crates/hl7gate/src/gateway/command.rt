@@ -7,7 +7,7 @@ use crate::gateway::control::attend_all;
 use crate::gateway::folder::{Folder, Room, refuse_spools};
 use crate::gateway::forwarders::forward_all;
 use crate::gateway::hub::Hub;
-use crate::gateway::late::{look_at_all, look_at_files};
+use crate::gateway::late::look_at_all;
 use crate::gateway::opening::plan_of;
 use crate::gateway::page::{Pages, show_all};
 use crate::gateway::plans::begin_lines;
@@ -80,13 +80,11 @@ fn look_at_log<J: Naming, S: Storage + Drop, R: Runtime + Wait>(hub: &Hub<'_, J,
     }
 }
 
-/// Looks from time to time whether the disk has room, which receivers are late, and which files nobody needs, until the gateway ends.
+/// Looks from time to time whether the disk has room, and which receivers are late, until the gateway ends.
 fn watch_all<J: Naming, S: Storage + Drop, R: Runtime + Wait>(hub: &Hub<'_, J, S, R>) {
-    let mut keeper = None;
     for _ in hub.rt.forever() {
         look_at_disk(hub);
         look_at_all(hub);
-        keeper = look_at_files(hub, keeper);
         for _fifth in 0..LOOK {
             if hub.has_ended() {
                 return;

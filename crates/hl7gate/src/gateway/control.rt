@@ -3,7 +3,7 @@ use crate::ended::Ended;
 use crate::gateway::hub::Hub;
 use crate::gateway::page::state;
 use crate::gateway::plans::take_file;
-use crate::gateway::resend::Ask;
+use crate::gateway::resend::{Ask, reads_log};
 use crate::runtime::Runtime;
 use crate::sockets::{listen_briefly, pause};
 use gw_journal::{Naming, Storage};
@@ -27,7 +27,7 @@ const PATIENCE: u64 = 5;
 
 /// Which words there are.
 const WORDS: &str =
-    "status [--json], swap PATH, install PATH, hold NAME, go NAME, resend NAME, stop";
+    "status [--json], swap PATH, install PATH, hold NAME, go NAME, find CONTROL-ID, show PLACE [--values], resend NAME, resend PLACE [NAME], replay NAME FROM TO, skip NAME, park NAME, stop";
 
 /// The path of a folder's socket.
 pub(crate) fn control_path(alloc: Global, folder: &str) -> Result<String, AllocError> {
@@ -73,7 +73,6 @@ fn tell_line<J: Naming, S: Storage + Drop, R: Runtime + Wait>(
             line.hold(hub.rt, false);
             format!(in alloc; "goes: {name} is sent what waits\n")
         }
-        // (where there is such a receiver, `resend` is answered by its own thread)
         _ => format!(in alloc; "refused: no receiver of the plan has this name\n"),
     }
 }
@@ -92,7 +91,7 @@ fn answer_word<J: Naming, S: Storage + Drop, R: Runtime + Wait>(
             hub.stop();
             format!(in alloc; "stops: what waits is sent by the next start\n")
         }
-        ("hold" | "go" | "resend", name) if !name.is_empty() => tell_line(hub, word, name),
+        ("hold" | "go", name) if !name.is_empty() => tell_line(hub, word, name),
         _ => format!(in alloc; "refused: the words are: {WORDS}\n"),
     }
 }
@@ -120,7 +119,7 @@ fn read_line<R: AllocGlobal>(rt: &R, stream: &UnixStream) -> io::Result<String> 
     }
 }
 
-/// Answers one connection, or has it wait for the thread that answers `resend`.
+/// Answers one connection, or has it wait for the thread that reads the log.
 fn attend<J: Naming, S: Storage + Drop, R: Runtime + Wait>(
     hub: &Hub<'_, J, S, R>,
     stream: UnixStream,
@@ -128,14 +127,11 @@ fn attend<J: Naming, S: Storage + Drop, R: Runtime + Wait>(
     stream.set_read_timeout(Some(Duration::from_secs(PATIENCE)))?;
     stream.set_write_timeout(Some(Duration::from_secs(PATIENCE)))?;
     let line = read_line(hub.rt, &stream)?;
-    let line = line.trim_end();
-    if let Some(("resend", name)) = line.split_once(' ')
-        && let Some(line) = hub.lines.named(hub.rt, name.as_bytes())
-    {
+    if reads_log(line.trim_end()) {
         hub.asks.put(hub.rt, Ask { line, stream })?;
         return Ok(());
     }
-    let text = answer(hub, line)?;
+    let text = answer(hub, line.trim_end())?;
     let mut writer = stream;
     writer.write_all(&text)
 }

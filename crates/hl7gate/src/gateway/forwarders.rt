@@ -37,7 +37,7 @@ struct Here<'a, 'f, J: Naming, S: Storage + Drop, R: Wait> {
 
 impl<J: Naming, S: Storage + Drop, R: Wait + Clock + Eprint> Forwarded for Here<'_, '_, J, S, R> {
     fn has_ended(&self) -> bool {
-        self.is_over.get() || self.hub.has_ended()
+        self.is_over.get() || self.hub.has_ended() || self.line.stand(self.hub.rt).over.is_some()
     }
 
     fn is_held(&self) -> bool {
@@ -150,7 +150,7 @@ impl<
         let (rt, sent) = (hub.rt, self.sent);
         for _ in rt.forever() {
             let before = outbox.count();
-            let mut reader = Reads::new(Answers { hub, stream });
+            let mut reader = Reads::new(Answers { hub, line, stream });
             let mut writer = Writes::new(Records {
                 hub,
                 line,
@@ -186,7 +186,8 @@ impl<
         if hub.has_ended() {
             return false;
         }
-        if line.stand(hub.rt).is_planned {
+        let stand = line.stand(hub.rt);
+        if stand.is_planned && stand.over.is_none() {
             let name = line.name.escape_ascii();
             let _ = eprintln!(hub.rt; "receiver {name} ended its connection; it is connected anew");
         }
@@ -231,6 +232,28 @@ impl<
         Ok(after)
     }
 
+    // Passes over what is first, where that is asked for and it is still the same. There is no connection meanwhile.
+    fn pass_over<O: Due>(&mut self, outbox: &mut O) {
+        let Here { hub, line, .. } = self.here;
+        let Some(over) = line.take_over(hub.rt) else {
+            return;
+        };
+        let is_full = hub.is_full.load(Ordering::SeqCst);
+        let place = if !is_full && hub.first_of(line.number) == Some(over.from) {
+            match outbox.pass_over(over.is_parked) {
+                Ok(place) => place,
+                Err(OutboxFault::Disk) => {
+                    hub.fail(RunFault::Write);
+                    None
+                }
+                Err(_) => None,
+            }
+        } else {
+            None
+        };
+        line.set_passed(hub.rt, place);
+    }
+
     // Connects, sends, and connects anew, until nothing more is sent.
     fn run<O: Due>(&mut self, outbox: &mut O) {
         let Here { hub, line, .. } = self.here;
@@ -241,6 +264,7 @@ impl<
             if hub.has_ended() {
                 return;
             }
+            self.pass_over(outbox);
             let Ok(Some(address)) = self.address() else {
                 line.wait(rt);
                 continue;
@@ -283,6 +307,8 @@ trait Due {
         requires writes { W.has_failed writer.old ≡ false };
 
     fn put_aside(&mut self) -> Result<(), OutboxFault>;
+
+    fn pass_over(&mut self, is_parked: bool) -> Result<Option<u64>, OutboxFault>;
 }
 
 impl<
@@ -308,6 +334,13 @@ impl<
 
     fn put_aside(&mut self) -> Result<(), OutboxFault> {
         Pending::put_aside(self)
+    }
+
+    fn pass_over(&mut self, is_parked: bool) -> Result<Option<u64>, OutboxFault> {
+        if !self.look()? {
+            return Ok(None);
+        }
+        Ok(Some(Pending::pass_over(self, is_parked)?))
     }
 }
 

@@ -138,6 +138,16 @@ impl<'f, J: Naming, S: Storage + Drop, R: Wait> Hub<'f, J, S, R> {
         }
     }
 
+    /// From where on something is left for a receiver, where that is so.
+    pub(crate) fn first_of(&self, receiver: u32) -> Option<u64> {
+        let office = self.journal.lock(self.rt);
+        let receivers = office.ledger.state().receivers();
+        match receivers.iter().find(|r| r.number() == receiver) {
+            Some(receiver) if receiver.left() > 0 => Some(receiver.from()),
+            _ => None,
+        }
+    }
+
     /// Up to where the log counts.
     pub(crate) fn tail(&self) -> Tail {
         let (segment, end) = self.journal.lock(self.rt).ledger.tail();

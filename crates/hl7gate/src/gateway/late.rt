@@ -70,7 +70,7 @@ pub(crate) fn look_at_files<
             Keeper::new(hub.rt.alloc(), view)
         }
     };
-    // (what comes to be left or refused after this look stands there, or behind it)
+    // (what comes to be left or refused after this look stands there, or behind it; the thread that looks is the one that has messages be due once more)
     let office = hub.journal.lock(hub.rt);
     let next = office.ledger.state().next();
     let left = needed_from(office.ledger.state());

@@ -21,6 +21,9 @@ pub(crate) struct Stand {
     // since when its first has been the first, and since when it hasn't been connected
     since: Option<Instant>,
     away: Option<Instant>,
+    /// What is to be passed over, and what came of it: the place that was.
+    pub(crate) over: Option<Over>,
+    passed: Option<Option<u64>>,
     pub(crate) sent: u64,
     pub(crate) aa: u64,
     pub(crate) ae: u64,
@@ -47,6 +50,13 @@ impl Stand {
     }
 }
 
+/// What is first is to be passed over, where what is left still begins at this place: skipped, or parked.
+#[derive(Clone, Copy)]
+pub(crate) struct Over {
+    pub(crate) is_parked: bool,
+    pub(crate) from: u64,
+}
+
 /// A receiver's line: its number in the log and its name.
 #[derive(Drop)]
 pub(crate) struct Line {
@@ -70,6 +80,8 @@ impl Line {
                 is_late: false,
                 since: None,
                 away: None,
+                over: None,
+                passed: None,
                 sent: 0,
                 aa: 0,
                 ae: 0,
@@ -103,6 +115,31 @@ impl Line {
         // (its forwarder may have looked already, and not wait yet)
         stand.is_rung = true;
         self.bell.notify_all();
+    }
+
+    /// What is first is to be passed over by its forwarder.
+    pub(crate) fn set_over<R: Wait>(&self, rt: &R, over: Over) {
+        let mut stand = self.stand.lock(rt);
+        stand.over = Some(over);
+        stand.passed = None;
+        stand.is_hurried = true;
+        stand.is_rung = true;
+        self.bell.notify_all();
+    }
+
+    /// What is to be passed over: whoever takes it out does it, or has it not be done.
+    pub(crate) fn take_over<R: Wait>(&self, rt: &R) -> Option<Over> {
+        self.stand.lock(rt).over.take()
+    }
+
+    /// What was first was passed over, at this place; or it wasn't.
+    pub(crate) fn set_passed<R: Wait>(&self, rt: &R, place: Option<u64>) {
+        self.stand.lock(rt).passed = Some(place);
+    }
+
+    /// What came of it.
+    pub(crate) fn passed<R: Wait>(&self, rt: &R) -> Option<Option<u64>> {
+        self.stand.lock(rt).passed
     }
 
     /// Whether it isn't to wait for the next try.

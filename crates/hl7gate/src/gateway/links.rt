@@ -34,6 +34,7 @@ pub(crate) fn connect<R: Net<Stream = TcpStream, Listener = TcpListener>>(
 #[derive(Drop)]
 pub(crate) struct Answers<'a, 'f, J: Naming, S: Storage + Drop, R: Wait> {
     pub(crate) hub: &'a Hub<'f, J, S, R>,
+    pub(crate) line: &'a Line,
     pub(crate) stream: &'a TcpStream,
 }
 
@@ -46,7 +47,7 @@ impl<J: Naming, S: Storage + Drop, R: Wait> Read for Answers<'_, '_, J, S, R> {
                 read => return read,
             }
             // (an acknowledgment that is due has had a second to come)
-            if self.hub.has_ended() {
+            if self.hub.has_ended() || self.line.stand(self.hub.rt).over.is_some() {
                 break;
             }
         }
@@ -84,7 +85,7 @@ impl<J: Naming, S: Storage + Drop, R: Wait> Write for Records<'_, '_, J, S, R> {
                 Err(error) if error.kind() == ErrorKind::WouldBlock => {}
                 written => return written,
             }
-            if self.hub.has_ended() {
+            if self.hub.has_ended() || self.line.stand(self.hub.rt).over.is_some() {
                 break;
             }
         }

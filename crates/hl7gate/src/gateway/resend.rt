@@ -1,30 +1,28 @@
-//! The word `resend`: what a receiver refused is due to it once more.
-//!
-//! All files of the log are read for that, so a thread of its own does it.
+//! Words that read the log's files. A thread of its own answers them. It looks which files are needed too: so no look comes between what it reads and puts.
+use crate::asked::answer_to;
 use crate::gateway::hub::Hub;
-use crate::gateway::lines::Line;
+use crate::gateway::late::look_at_files;
 use crate::runtime::Runtime;
-use crate::stamps::microseconds;
-use gw_delivery::{Keeper, PageFault, Pages};
-use gw_folder::FolderView;
+use crate::store::Unanswered;
+use gw_delivery::PageFault;
 use gw_journal::{Naming, Storage};
-use gw_ledger::Message;
-use gw_stream::RunFault;
 use std::alloc::{AllocError, Global};
 use std::collections::VecDeque;
 use std::io::Write;
 use std::os::unix::net::UnixStream;
-use std::sync::{Arc, Mutex, Wait};
+use std::sync::{Mutex, Wait};
 use std::time::Duration;
 use std::{io, thread};
 
-/// After how many milliseconds the thread looks whether somebody asks.
+/// After how many milliseconds the thread looks whether somebody asks, and after how many of these looks it looks at the files.
 const LOOK: u64 = 50;
 
-/// Somebody asks for what this receiver refused, and waits for the answer.
+const FILES: u64 = 100;
+
+/// A line that came in, and who waits for its answer.
 #[derive(Drop)]
 pub(crate) struct Ask {
-    pub(crate) line: Arc<Line>,
+    pub(crate) line: String,
     pub(crate) stream: UnixStream,
 }
 
@@ -52,96 +50,11 @@ impl Asks {
     }
 }
 
-/// The files of the log.
-fn view_of<'f, J: Naming, S: Storage + Drop, R: Runtime + Wait>(
-    hub: &Hub<'f, J, S, R>,
-) -> Result<FolderView<'f, R>, PageFault> {
-    match FolderView::beside(hub.rt, &hub.folder.path) {
-        Ok(view) => Ok(view),
-        // (that the folder can't be opened now)
-        Err(_) => Err(PageFault::Damaged { segment: 0, at: 0 }),
-    }
-}
-
-/// Where the messages stand that lie refused by a receiver. Nobody asks any more once the gateway ends.
-fn places<J: Naming, S: Storage + Drop, R: Runtime + Wait>(
-    hub: &Hub<'_, J, S, R>,
-    receiver: u32,
-) -> Result<Vec<u64>, PageFault> {
-    let view = view_of(hub)?;
-    let mut keeper = Keeper::new(hub.rt.alloc(), view);
-    let next = hub.journal.lock(hub.rt).ledger.state().next();
-    // (what a refusal wrote is on the disk before its forwarder goes on)
-    for _ in hub.rt.forever() {
-        let before = keeper.place();
-        if keeper.read_to(hub.tail(), next)? || keeper.place() == before || hub.has_ended() {
-            break;
-        }
-    }
-    Ok(keeper.refused(receiver)?)
-}
-
-/// The messages that lie refused by a receiver.
-fn refused<J: Naming, S: Storage + Drop, R: Runtime + Wait>(
-    hub: &Hub<'_, J, S, R>,
-    receiver: u32,
-) -> Result<Vec<Message<J>>, PageFault> {
-    let alloc = hub.rt.alloc();
-    let mut pages = Pages::new(alloc, view_of(hub)?);
-    let mut messages = Vec::new(alloc);
-    for place in &places(hub, receiver)? {
-        if hub.has_ended() {
-            break;
-        }
-        let bytes = pages.find(hub.tail(), *place)?;
-        let found = hub.journal.lock(hub.rt).ledger.message(*place, &bytes)?;
-        if let Some(message) = found {
-            messages.push(message)?;
-        }
-    }
-    Ok(messages)
-}
-
-/// Has messages be due to a receiver once more, and gives how many they are once that is on the disk.
-fn put_again<J: Naming, S: Storage + Drop, R: Runtime + Wait>(
-    hub: &Hub<'_, J, S, R>,
-    line: &Line,
-    messages: &[Message<J>],
-) -> Result<String, AllocError> {
-    let alloc = hub.rt.alloc();
-    let time = microseconds(hub.rt);
-    let mut last = None;
-    for message in messages {
-        let mut office = hub.journal.lock(hub.rt);
-        match office.ledger.again(time, line.number, message) {
-            Ok(ticket) => last = Some(ticket),
-            Err(fault) => return format!(in alloc; "refused: {fault}\n"),
-        }
-    }
-    if let Some(ticket) = &last
-        && hub.journal.settle(hub.rt, ticket).is_err()
-    {
-        hub.fail(RunFault::Write);
-        return format!(in alloc; "refused: the disk has failed\n");
-    }
-    line.ring(hub.rt);
-    format!(in alloc; "resent {}\n", messages.len())
-}
-
-/// Has all that a receiver refused be due to it once more, in the order in which it refused it.
-fn resend<J: Naming, S: Storage + Drop, R: Runtime + Wait>(
-    hub: &Hub<'_, J, S, R>,
-    line: &Line,
-) -> Result<String, AllocError> {
-    let alloc = hub.rt.alloc();
-    let refused = refused(hub, line.number);
-    if hub.has_ended() {
-        return format!(in alloc; "refused: the gateway ends\n");
-    }
-    match refused {
-        Ok(messages) => put_again(hub, line, &messages),
-        Err(PageFault::Memory) => Err(AllocError),
-        Err(fault) => format!(in alloc; "refused: {fault}\n"),
+/// Whether a line is a word that reads the log.
+pub(crate) fn reads_log(line: &str) -> bool {
+    match line.split_once(' ') {
+        Some(("find" | "show" | "resend" | "replay" | "skip" | "park", rest)) => !rest.is_empty(),
+        _ => false,
     }
 }
 
@@ -151,17 +64,29 @@ fn attend<J: Naming, S: Storage + Drop, R: Runtime + Wait>(
     ask: Ask,
 ) -> io::Result<()> {
     let Ask { line, stream } = ask;
-    let text = resend(hub, &line)?;
+    let alloc = hub.rt.alloc();
+    let text = match answer_to(hub, line.trim_end()) {
+        Ok(text) => text,
+        Err(Unanswered::Ended) => format!(in alloc; "refused: the gateway ends\n")?,
+        Err(Unanswered::Page(PageFault::Memory)) => return Err(io::Error::from(AllocError)),
+        Err(Unanswered::Page(fault)) => format!(in alloc; "refused: {fault}\n")?,
+    };
     let mut writer = stream;
     writer.write_all(text.as_bytes())
 }
 
-/// Answers one after another who asks, until the gateway ends.
+/// Answers one after another who asks, and looks from time to time which files nobody needs, until the gateway ends.
 pub(crate) fn resend_all<J: Naming, S: Storage + Drop, R: Runtime + Wait>(hub: &Hub<'_, J, S, R>) {
+    let mut keeper = None;
+    let mut looks = 0_u64;
     for _ in hub.rt.forever() {
         if hub.has_ended() {
             return;
         }
+        if looks == 0 {
+            keeper = look_at_files(hub, keeper);
+        }
+        looks = looks.wrapping_add(1) % FILES;
         match hub.asks.take(hub.rt) {
             Some(ask) => drop(attend(hub, ask)),
             None => thread::sleep(hub.rt, Duration::from_millis(LOOK)),
