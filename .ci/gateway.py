@@ -35,6 +35,12 @@ def logged(answer):
     return b" ".join([header[9], control, acknowledged[1], error[3].split(b"^")[0], *place]).decode()
 
 
+def noted(message, answer):
+    """The line of an answer but its time and session: behind what `logged` says comes who sent the message, by MSH-3 and MSH-4 too, where these could be read."""
+    line, (_, _, name, place) = logged(answer), message.split(b"|")[:4]
+    return line + " from PEER" + (f" {name.decode()}|{place.decode()}" if line.split()[1] != "-" else "")
+
+
 class Receiver:
     """A receiver that takes one connection after another, and keeps what came. It acknowledges each block by the next of its codes, the last of them for ever.
     `None` closes the connection instead, and an empty one says nothing. Where it `closes`, it ends its connection behind each acknowledgment."""
@@ -216,8 +222,8 @@ class Gateway:
         return [it["waiting"] for it in sorted(self.status()["receivers"], key=lambda it: it["name"])]
 
     def refusals(self):
-        """The lines of its log of refusals, with NOW for the time."""
-        return [re.sub(r"^\d{14} ", "NOW ", it) for it in (self.folder / "refusals.log").read_text().splitlines()]
+        """The lines of its log of refusals, with NOW for the time and PEER for the address of the sender's connection."""
+        return [re.sub(r" from 127\.0\.0\.1:\d+", " from PEER", re.sub(r"^\d{14} ", "NOW ", it)) for it in (self.folder / "refusals.log").read_text().splitlines()]
 
     def tell(self, *line):
         """A word to the gateway: its status, and its lines with no address."""

@@ -1,11 +1,12 @@
 """What a gateway shows on its page, and what its metrics and its health say. `.ci/gateways` plays these trials."""
 import contextlib
+import html
 import re
 import socket
 import subprocess
 import time
 
-from gateway import REPORT, Receiver, control, logged, numbered
+from gateway import REPORT, Receiver, control, logged, noted, numbered
 from loopback import ANSWERS, LEFT, MESSAGES, SECRETS, Differs, same
 
 
@@ -26,9 +27,14 @@ def got(gateway, path, method="GET"):
     return fetched(gateway, f"{method} {path} HTTP/1.1\r\nHost: x\r\n\r\n".encode())
 
 
-def shown(gateway):
+# HL7 table 0357, as far as the gateway answers it.
+TABLE = {"100": "Segment sequence error", "101": "Required field missing", "102": "Data type error", "103": "Table value not found"}
+TABLE |= {"200": "Unsupported message type", "201": "Unsupported event code", "202": "Unsupported processing id", "203": "Unsupported version id", "207": "Application internal error"}
+
+
+def shown(gateway, *words):
     """Starts the gateway with its page, and finds where that is."""
-    gateway.start("--status", ":0")
+    gateway.start("--status", ":0", *words)
     gateway.shown = int(gateway.wait(r"status at http://127\.0\.0\.1:(\d+)/")[1])
 
 
@@ -92,12 +98,16 @@ def page(gateway):
     rows = [re.findall(r"<td>(.*?)</td>", it) for it in re.findall(r"<tr>.*?</tr>", text)]
     taken = (len(LEFT["WARDS"]) - 1, 1), (len(LEFT["ARCHIVE"]), 0)
     stated = [["connected", "0", "0", f"{aa + ae}", f"{aa}", f"{ae}", "0"] for aa, ae in taken]
-    same("the receivers' rows", sorted(stated), sorted(it for it in rows if len(it) == 7))
-    told = [(it[2:]) for it in rows if len(it) == 6]
-    stated = [[number, code, condition, "".join(place)] for number, _, code, condition, *place in (logged(it).split() for it in reversed(refusals))]
-    same("the last refusals", stated, told)
+    same("the receivers' rows", sorted(stated), sorted(it[:-1] for it in rows if len(it) == 8))
+    told = [[re.sub(r"127\.0\.0\.1:\d+", "PEER", it[2]), *it[3:]] for it in rows if len(it) == 7]
+    senders = [noted(*it).split(" from ")[1] for it in zip(MESSAGES, ANSWERS) if it[1] in refusals]
+    lines = [logged(it).split() for it in refusals]
+    stated = [[who, number, code, f"{condition} {TABLE[condition]}", "".join(place)] for who, (number, _, code, condition, *place) in zip(senders, lines)]
+    same("the last refusals", stated[::-1], told)
+    version = subprocess.run([gateway.program, "--version"], capture_output=True, text=True).stdout.strip()
+    same("version and machine", 1, text.count(f", {version} on {html.escape(socket.gethostname())}. "))
     same("control ids and values on the page", [], [it for it in [control(it).decode() for it in MESSAGES] + list(SECRETS) if it and it in text])
-    same("health", (200, "ok\n"), (lambda it: (it[0], it[2]))(got(gateway, "/health")))
+    same("health", (200, "ok"), (lambda it: (it[0], it[2].split("\n")[0]))(got(gateway, "/health")))
     same("HEAD", (200, ""), (lambda it: (it[0], it[2]))(got(gateway, "/", "HEAD")))
     same("another path, and another method", (404, 405, 404), (got(gateway, "/index.html")[0], got(gateway, "/metrics", "POST")[0], got(gateway, "/health/x")[0]))
     same("no request, and one with a body", (400, 413), (fetched(gateway, b"hello\r\n\r\n")[0], fetched(gateway, b"GET / HTTP/1.1\r\nHost: x\r\nContent-Length: 5\r\n\r\nhello")[0]))
@@ -110,19 +120,23 @@ def page(gateway):
 
 
 def page_hangs(gateway):
-    """Clients of the page that send nothing, half a request or a byte now and then have five seconds each. Another waits as long, and a sender doesn't."""
+    """Clients of the page that send nothing, half a request or a byte now and then have five seconds each. Seven of them delay nobody. Where eight are there, another waits, and a sender doesn't."""
     gateway.play(WARDS=Receiver(), ARCHIVE=Receiver())
     shown(gateway)
-    for request in b"", b"GET / HT", b"GET /metrics HTTP/1.1\r\nHost: x\r\n":
-        with socket.create_connection(("127.0.0.1", gateway.shown), 5) as line:
-            line.sendall(request)
+    requests = b"", b"GET / HT", b"GET /metrics HTTP/1.1\r\nHost: x\r\n"
+    for count in 7, 8:
+        with contextlib.ExitStack() as lines:
+            for at in range(count):
+                lines.enter_context(socket.create_connection(("127.0.0.1", gateway.shown), 5)).sendall(requests[at % 3])
+            time.sleep(0.5)
             begun = time.monotonic()
             gateway.answered(gateway.ask([REPORT])[:1], [numbered(gateway.asked)])
             if time.monotonic() - begun > 3:
                 raise Differs("a sender waited for the page")
-            same("health behind a client that hangs", 200, got(gateway, "/health")[0])
-            if not 2 < time.monotonic() - begun < 10:
-                raise Differs(f"a client that hangs had {time.monotonic() - begun:.1f} s")
+            same("health behind clients that hang", 200, got(gateway, "/health")[0])
+            took = time.monotonic() - begun
+            if not (took < 2 if count == 7 else 2 < took < 10):
+                raise Differs(f"behind {count} clients that hang health took {took:.1f} s")
         gateway.asked += 1
     with socket.create_connection(("127.0.0.1", gateway.shown), 5) as line:
         begun = time.monotonic()
@@ -146,7 +160,7 @@ def page_when_short(gateway):
     gateway.ask([REPORT])
     same("health", (503, "the disk is short of room\n"), (lambda it: (it[0], it[2]))(got(gateway, "/health")))
     text = got(gateway, "/")[2]
-    same("the page", (1, 1), (text.count('<p class="state bad">the disk is short of room</p>'), text.count("<td>AR</td><td>207</td>")))
+    same("the page", (1, 1), (text.count('<p class="state bad">the disk is short of room</p>'), text.count("<td>AR</td><td>207 Application internal error</td>")))
     same("the metrics", (1, 1), (lambda it: (it["hl7gate_short_of_room", ()], it["hl7gate_refused_total", (("code", "207"),)]))(samples(got(gateway, "/metrics")[2])))
     gateway.kill()
 
@@ -171,4 +185,61 @@ def page_of_the_down(gateway, seconds=60):
         raise Differs(f"the health fell after {time.monotonic() - since:.0f} s")
     stated = ["receiver ARCHIVE has taken nothing for N s", "receiver WARDS has not been connected for N s"]
     same("health after a minute", (503, stated), (status[0], sorted(re.sub(r"\d+ s$", "N s", it) for it in status[2].splitlines())))
+    gateway.kill()
+
+
+def page_by_limit(gateway, late=3):
+    """`--late`: what waits for longer is reported, and the health says so, of a receiver that is held too. One that closes its idle connection is seen at once, and late behind the limit."""
+    wards = Receiver()
+    gateway.play(WARDS=wards, ARCHIVE=Receiver())
+    for word in "0", "86401", "+3", "x":
+        words = [gateway.program, "gateway", "plan", "127.0.0.1:0", "folder", "--late", word]
+        done = subprocess.run(words, cwd=gateway.room, capture_output=True, text=True, timeout=20)
+        same(f"--late {word}", (2, "error: late is a number from 1 to 86400\n"), (done.returncode, done.stderr))
+    shown(gateway, "--late", str(late))
+    health = lambda: (lambda it: (it[0], re.sub(r"\d+ s", "N s", it[2])))(got(gateway, "/health"))
+    for name, receiver in gateway.receivers.items():
+        gateway.wait(f"receiver {name} at {receiver.address} connected")
+    same("hold", 0, gateway.tell("hold", "ARCHIVE")[0])
+    gateway.answered(gateway.ask([REPORT]), ANSWERS[:1])
+    same("health in the first seconds", (200, "ok\n"), health())
+    stated = 503, "receiver ARCHIVE has taken nothing for N s; it is held\n"
+    same("health of one that is held", stated, gateway.once(stated, health))
+    gateway.wait(f"receiver ARCHIVE: 1 wait, the first for more than {late} s")
+    same("the page", 1, got(gateway, "/")[2].count('<p class="state bad">receiver ARCHIVE has taken nothing for'))
+    same("go", 0, gateway.tell("go", "ARCHIVE")[0])
+    same("health behind go", (200, "ok\n"), gateway.once((200, "ok\n"), health))
+    gateway.wait(f"receiver ARCHIVE: none waits for more than {late} s any more")
+    wards.close()
+    since, stated = time.monotonic(), [True, False]
+    connected = lambda: [it["connected"] for it in sorted(gateway.status()["receivers"], key=lambda it: it["name"])]
+    same("who is connected", stated, gateway.once(stated, connected))
+    if time.monotonic() - since > 5:
+        raise Differs(f"that an idle connection was closed was seen after {time.monotonic() - since:.1f} s")
+    stated = 503, "receiver WARDS has not been connected for N s\n"
+    same("health of one that is gone", stated, gateway.once(stated, health))
+    wards.open(wards.port)
+    same("health in the end", (200, "ok\n"), gateway.once((200, "ok\n"), health))
+    gateway.kill()
+
+
+def page_of_the_refused(gateway):
+    """What a receiver refused is in the status, the metrics, the page and the health, over a restart too, until it is sent again. The health stays 200."""
+    gateway.play(WARDS=Receiver(codes=[b"AE", b"AA"]), ARCHIVE=Receiver())
+    lie = lambda: [it["lie_refused"] for it in sorted(gateway.status()["receivers"], key=lambda it: it["name"])]
+    shown(gateway)
+    gateway.answered(gateway.ask([REPORT]), ANSWERS[:1])
+    for _ in range(2):
+        same("what lies refused", [0, 1], gateway.once([0, 1], lie))
+        same("health", (200, "ok\nreceiver WARDS: messages refused and not sent again: 1\n"), (lambda it: (it[0], it[2]))(got(gateway, "/health")))
+        text = got(gateway, "/")[2]
+        same("the page", 1, text.count('<p class="state">All is well.\nreceiver WARDS: messages refused and not sent again: 1</p>'))
+        same("the rows' last cells", ["0", "1"], sorted(re.findall(r"<td>(\d+)</td></tr>", text)))
+        found = samples(got(gateway, "/metrics")[2])
+        same("the metric", [0, 1], [found["hl7gate_refused_messages", (("receiver", it),)] for it in ("ARCHIVE", "WARDS")])
+        gateway.stop()
+        shown(gateway)
+    same("resend", (0, "resent 1\n"), gateway.tell("resend", "WARDS"))
+    same("what lies refused then", [0, 0], gateway.once([0, 0], lie))
+    same("health then", (200, "ok\n"), (lambda it: (it[0], it[2]))(got(gateway, "/health")))
     gateway.kill()

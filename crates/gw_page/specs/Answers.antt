@@ -1,12 +1,11 @@
 -- What answers which request.
-use Rattle.std.specs.Prelude.{◌≡◌, ℕ, Bool, true, false, not, ◌&&◌, ◌||◌, nat_le, List, [], codes, bytes_eq, if◌then◌else◌}
-use Rattle.std.specs.List.{list_all}
+use Rattle.std.specs.Prelude.{◌≡◌, ℕ, Bool, true, false, ◌||◌, List, [], codes, bytes_eq, if◌then◌else◌}
 use Rattle.http_server.specs.declared.response.Response.{Response}
-use Rattle.gw_page.specs.declared.figures.Receiver.{Receiver}
 use Rattle.gw_page.specs.declared.figures.Figures.{Figures}
 use Rattle.gw_page.specs.declared.place.Place.{Place}
 use Rattle.gw_page.specs.Rows.{Shows, rows, entries}
 use Rattle.gw_page.specs.Samples.{samples}
+use Rattle.gw_page.specs.Health.{is_well, health}
 
 -- the method asks for a text, and changes nothing
 abbrev pub is_read : List ℕ → Bool
@@ -15,13 +14,6 @@ is_read method = bytes_eq method (codes "GET") || bytes_eq method (codes "HEAD")
 abbrev pub place_of : List ℕ → Place
 place_of path = if bytes_eq path (codes "/") then Place.Page else if bytes_eq path (codes "/metrics") then Place.Metrics
     else if bytes_eq path (codes "/health") then Place.Health else Place.Elsewhere
-
--- connected, or not for a minute at most, and its first doesn't wait for longer
-abbrev pub is_near : Receiver → Bool
-is_near r = (r.is_connected || nat_le r.down 60) && nat_le r.oldest 60
-
-abbrev pub is_well : Figures → Bool
-is_well f = not f.has_failed && not f.is_short && list_all is_near f.receivers.items
 
 abbrev pub status_of : Figures → Bool → Place → ℕ
 status_of f reads Place.Elsewhere = 404
@@ -44,7 +36,7 @@ Gives f false Place.Metrics text = text ≡ []
 Gives f false Place.Health text = text ≡ []
 Gives f true Place.Page text = IsPage f text
 Gives f true Place.Metrics text = Shows (samples f.receivers.items) text
-Gives f true Place.Health text = is_well f ≡ true → text ≡ codes "ok\n"
+Gives f true Place.Health text = text ≡ health f
 
 pub record Answers (f : Figures) (method path : List ℕ) (r : Response) : Type 0 where
   pub status : r.status ≡ status_of f (is_read method) (place_of path)

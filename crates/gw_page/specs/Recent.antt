@@ -29,10 +29,11 @@ answered counts = fold added 0 counts
 pub record Texts : Type 0 where
   pub time : List ℕ
   pub session : ℕ
+  pub from : List ℕ
   pub number : List ℕ
   pub answer : List ℕ
   pub code : List ℕ
   pub place : List ℕ
 
 unfoldable pub texts : Refusal → Texts
-texts r = record { time = r.time; session = r.session; number = r.number.items; answer = r.answer.items; code = r.code.items; place = r.place.items }
+texts r = record { time = r.time; session = r.session; from = r.from.items; number = r.number.items; answer = r.answer.items; code = r.code.items; place = r.place.items }

@@ -13,6 +13,7 @@ figure_of Figure.Held r = as_number r.is_held
 figure_of Figure.Due r = r.waiting
 figure_of Figure.Oldest r = r.oldest
 figure_of Figure.Sent r = r.sent
+figure_of Figure.Lying r = r.lying
 
 unfoldable pub label : Receiver → List ℕ
 label r = codes "{receiver=\"" ++ quoted r.name.items ++ codes "\"} "

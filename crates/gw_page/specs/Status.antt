@@ -25,7 +25,7 @@ stand r = if r.is_held then codes "held" else if r.is_connected then codes "conn
 
 unfoldable pub numbers : Receiver → List ℕ
 numbers r = field (codes ", ") r.waiting ++ field (codes " wait, the first for ") r.oldest
-    ++ field (codes " s, taken ") r.aa ++ field (codes ", refused ") r.refused ++ codes "\n"
+    ++ field (codes " s, taken ") r.aa ++ field (codes ", refused ") r.refused ++ field (codes ", lie refused ") r.lying ++ codes "\n"
 
 -- a receiver's line
 unfoldable pub line : Receiver → List ℕ
@@ -52,7 +52,7 @@ member r = codes "{\"name\":\"" ++ printed r.name.items ++ codes "\""
 
 unfoldable pub counted : Receiver → List ℕ
 counted r = field (codes ",\"waiting\":") r.waiting ++ field (codes ",\"first_waits_seconds\":") r.oldest
-    ++ field (codes ",\"taken\":") r.aa ++ field (codes ",\"refused\":") r.refused ++ codes "}"
+    ++ field (codes ",\"taken\":") r.aa ++ field (codes ",\"refused\":") r.refused ++ field (codes ",\"lie_refused\":") r.lying ++ codes "}"
 
 -- a receiver
 unfoldable pub object : Receiver → List ℕ

@@ -78,6 +78,12 @@ const ANSWERED: Metric = Metric {
     help: b"Answers of a receiver since the start, by their code (HL7 table 0008).",
 };
 
+const LYING: Metric = Metric {
+    name: b"hl7gate_refused_messages",
+    kind: GAUGE,
+    help: b"Messages that lie refused by a receiver, and weren't sent again.",
+};
+
 const CONNECTED: Metric = Metric {
     name: b"hl7gate_receiver_connected",
     kind: GAUGE,
@@ -120,6 +126,7 @@ fn put_others(out: &mut Vec<u8>, receivers: &[Receiver]) -> Result<(), AllocErro
     put_family(out, &SENT, Figure::Sent, receivers)?;
     put_metric(out, &ANSWERED)?;
     put_answers(out, ANSWERED.name, receivers)?;
+    put_family(out, &LYING, Figure::Lying, receivers)?;
     put_family(out, &CONNECTED, Figure::Connected, receivers)?;
     put_family(out, &HELD, Figure::Held, receivers)
 }

@@ -12,6 +12,7 @@ pub enum Figure {
     Due,
     Oldest,
     Sent,
+    Lying,
 }
 
 fn as_number(is_so: bool) -> u64
@@ -30,5 +31,6 @@ pub(crate) fn figure_of(figure: Figure, receiver: &Receiver) -> u64
         Figure::Due => receiver.waiting,
         Figure::Oldest => receiver.oldest,
         Figure::Sent => receiver.sent,
+        Figure::Lying => receiver.lying,
     }
 }

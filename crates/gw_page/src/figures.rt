@@ -2,7 +2,7 @@
 
 /// A receiver: its name and address, whether it is connected, for how many seconds it isn't, and whether it is held.
 /// `waiting` messages wait for it, the first of them for `oldest` seconds. It was sent `sent` messages, repeats included, and answered each code so often.
-/// `refused` messages are all that it refused.
+/// `refused` messages are all that it refused; `lying` of these lie refused, and weren't sent again.
 #[derive(Drop)]
 pub struct Receiver {
     pub name: Vec<u8>,
@@ -17,13 +17,15 @@ pub struct Receiver {
     pub ae: u64,
     pub ar: u64,
     pub refused: u64,
+    pub lying: u64,
 }
 
-/// An answer that isn't AA: its time (UTC, YYYYMMDDHHMMSS), the session, the answer's control id, MSA-1, and the code and place of ERR.
+/// An answer that isn't AA: its time (UTC, YYYYMMDDHHMMSS), the session, who sent the message, the answer's control id, MSA-1, and the code and place of ERR.
 #[derive(Drop)]
 pub struct Refusal {
     pub time: [u8; 14],
     pub session: u64,
+    pub from: Vec<u8>,
     pub number: Vec<u8>,
     pub answer: Vec<u8>,
     pub code: Vec<u8>,
@@ -37,12 +39,16 @@ pub struct Refused {
     pub count: u64,
 }
 
-/// The gateway: the time (UTC, YYYYMMDDHHMMSS), the number of its plan, how many messages it accepted and refused,
-/// how many connections are open and how many there were, how many records its log has, whether its disk is short of room,
-/// whether it can't go on, its receivers, how often each code refused, and its last refusals.
+/// The gateway: its version, the name of its machine, the time (UTC, YYYYMMDDHHMMSS), and after how many seconds a receiver is late;
+/// the number of its plan, how many messages it accepted and refused, how many connections are open and how many there were,
+/// how many records its log has, whether its disk is short of room, whether it can't go on,
+/// its receivers, how often each code refused, and its last refusals.
 #[derive(Drop)]
 pub struct Figures {
+    pub version: Vec<u8>,
+    pub host: Vec<u8>,
     pub time: [u8; 14],
+    pub late: u64,
     pub plan: u64,
     pub accepted: u64,
     pub refused: u64,

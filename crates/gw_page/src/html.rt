@@ -5,7 +5,7 @@ ghost use Rattle.gw_page.specs.Rows.{Extends};
 
 use crate::parts::{put_entries, put_rows, put_time};
 use crate::texts::{put, put_escaped, put_number};
-use crate::wellness::{health, is_well};
+use crate::wellness::{health, is_well, put_notes};
 use crate::{Figures, Refusal};
 use std::alloc::{AllocError, Global};
 
@@ -39,7 +39,8 @@ const RECEIVERS: &[u8] = b"<h2 id=\"receivers\">Receivers</h2>
 <table class=\"numbers\" aria-labelledby=\"receivers\">
 <thead>
 <tr><th scope=\"col\">Receiver</th><th scope=\"col\">State</th><th scope=\"col\">Waiting</th>
-<th scope=\"col\">First waits (s)</th><th scope=\"col\">Sent</th><th scope=\"col\">AA</th><th scope=\"col\">AE</th><th scope=\"col\">AR</th></tr>
+<th scope=\"col\">First waits (s)</th><th scope=\"col\">Sent</th><th scope=\"col\">AA</th><th scope=\"col\">AE</th><th scope=\"col\">AR</th>
+<th scope=\"col\">Lie refused</th></tr>
 </thead>
 <tbody>
 ";
@@ -52,13 +53,13 @@ const SENDERS: &[u8] = b"</tbody>
 const REFUSALS: &[u8] = b"<h2 id=\"refusals\">Last refusals</h2>
 <table aria-labelledby=\"refusals\">
 <thead>
-<tr><th scope=\"col\">Time (UTC)</th><th scope=\"col\">Session</th><th scope=\"col\">Number</th>
+<tr><th scope=\"col\">Time (UTC)</th><th scope=\"col\">Session</th><th scope=\"col\">From</th><th scope=\"col\">Number</th>
 <th scope=\"col\">Answer</th><th scope=\"col\">Code</th><th scope=\"col\">Place</th></tr>
 </thead>
 <tbody>
 ";
 
-const NONE: &[u8] = b"<tr><td colspan=\"6\">none since the start</td></tr>\n";
+const NONE: &[u8] = b"<tr><td colspan=\"7\">none since the start</td></tr>\n";
 
 const END: &[u8] = b"</tbody>
 </table>
@@ -68,12 +69,15 @@ const END: &[u8] = b"</tbody>
 ";
 
 fn put_state(out: &mut Vec<u8>, alloc: Global, figures: &Figures) -> Result<(), AllocError> {
-    if is_well(figures) {
-        return put(out, b"<p class=\"state\">All is well.</p>\n");
+    if !is_well(figures) {
+        put(out, b"<p class=\"state bad\">")?;
+        put_escaped(out, health(alloc, figures)?.as_slice().trim_ascii_end())?;
+        return put(out, b"</p>\n");
     }
-    let reasons = health(alloc, figures)?;
-    put(out, b"<p class=\"state bad\">")?;
-    put_escaped(out, reasons.as_slice().trim_ascii_end())?;
+    let mut notes = Vec::from_slice(alloc, b"All is well.\n")?;
+    put_notes(&mut notes, &figures.receivers)?;
+    put(out, b"<p class=\"state\">")?;
+    put_escaped(out, notes.as_slice().trim_ascii_end())?;
     put(out, b"</p>\n")
 }
 
@@ -83,6 +87,10 @@ fn put_summary(out: &mut Vec<u8>, alloc: Global, figures: &Figures) -> Result<()
     put_time(out, &figures.time)?;
     put(out, b" UTC, plan ")?;
     put_number(out, figures.plan)?;
+    put(out, b", hl7gate ")?;
+    put_escaped(out, &figures.version)?;
+    put(out, b" on ")?;
+    put_escaped(out, &figures.host)?;
     put(out, b". This page is loaded anew each five seconds.</p>\n")?;
     put_state(out, alloc, figures)?;
     put(out, RECEIVERS)

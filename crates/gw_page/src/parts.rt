@@ -1,7 +1,7 @@
 //! The rows of the page.
 ghost use Rattle.std.specs.Prelude.{◌≡◌, ◌++◌, OnOk, decimal};
 ghost use Rattle.gw_page.specs.Escapes.{escaped};
-ghost use Rattle.gw_page.specs.Rows.{cell, connection, standing, header, counts, row, rows, date, clock, readable, entry, entries};
+ghost use Rattle.gw_page.specs.Rows.{cell, connection, standing, header, counts, row, rows, date, clock, readable, rejected, meaning, reason, entry, entries};
 
 use crate::texts::{put, put_escaped, put_number};
 use crate::{Receiver, Refusal};
@@ -66,7 +66,8 @@ fn put_counts(out: &mut Vec<u8>, receiver: &Receiver) -> Result<(), AllocError>
     put_count(out, receiver.sent)?;
     put_count(out, receiver.aa)?;
     put_count(out, receiver.ae)?;
-    put_count(out, receiver.ar)
+    put_count(out, receiver.ar)?;
+    put_count(out, receiver.lying)
 }
 
 fn put_row(out: &mut Vec<u8>, receiver: &Receiver) -> Result<(), AllocError>
@@ -126,15 +127,76 @@ fn put_moment(out: &mut Vec<u8>, time: &[u8; 14]) -> Result<(), AllocError>
     put(out, b"</td>")
 }
 
+#[tactic(auto, unfolding(crate::specs::Rows::rejected))]
+fn rejected(code: &[u8]) -> &'static [u8]
+    ensures { result.now ≡ rejected code.now }
+{
+    if code == b"200".as_slice() {
+        return b" Unsupported message type";
+    }
+    if code == b"201".as_slice() {
+        return b" Unsupported event code";
+    }
+    if code == b"202".as_slice() {
+        return b" Unsupported processing id";
+    }
+    if code == b"203".as_slice() {
+        return b" Unsupported version id";
+    }
+    if code == b"204".as_slice() {
+        return b" Unknown key identifier";
+    }
+    if code == b"205".as_slice() {
+        return b" Duplicate key identifier";
+    }
+    if code == b"206".as_slice() {
+        return b" Application record locked";
+    }
+    if code == b"207".as_slice() {
+        return b" Application internal error";
+    }
+    &[]
+}
+
+/// What a condition code says (HL7 table 0357), behind a space. Nothing of another one.
+#[tactic(auto, unfolding(crate::specs::Rows::meaning))]
+fn meaning(code: &[u8]) -> &'static [u8]
+    ensures { result.now ≡ meaning code.now }
+{
+    if code == b"100".as_slice() {
+        return b" Segment sequence error";
+    }
+    if code == b"101".as_slice() {
+        return b" Required field missing";
+    }
+    if code == b"102".as_slice() {
+        return b" Data type error";
+    }
+    if code == b"103".as_slice() {
+        return b" Table value not found";
+    }
+    rejected(code)
+}
+
+fn put_reason(out: &mut Vec<u8>, code: &[u8]) -> Result<(), AllocError>
+    ensures { OnOk result (out.new.items ≡ out.old.items ++ reason code.now) }
+{
+    put(out, b"<td>")?;
+    put_escaped(out, code)?;
+    put(out, meaning(code))?;
+    put(out, b"</td>")
+}
+
 fn put_entry(out: &mut Vec<u8>, refusal: &Refusal) -> Result<(), AllocError>
     ensures { OnOk result (out.new.items ≡ out.old.items ++ entry refusal.now) }
 {
     put(out, b"<tr>")?;
     put_moment(out, &refusal.time)?;
     put_count(out, refusal.session)?;
+    put_cell(out, &refusal.from)?;
     put_cell(out, &refusal.number)?;
     put_cell(out, &refusal.answer)?;
-    put_cell(out, &refusal.code)?;
+    put_reason(out, &refusal.code)?;
     put_cell(out, &refusal.place)?;
     put(out, b"</tr>\n")
 }

@@ -76,6 +76,7 @@ fn copy(alloc: Global, of: &Refusal) -> Result<Refusal, AllocError>
     Ok(Refusal {
         time: of.time,
         session: of.session,
+        from: Vec::from_slice(alloc, &of.from)?,
         number: Vec::from_slice(alloc, &of.number)?,
         answer: Vec::from_slice(alloc, &of.answer)?,
         code: Vec::from_slice(alloc, &of.code)?,

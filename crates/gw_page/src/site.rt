@@ -1,10 +1,11 @@
 //! The answers of a gateway's server.
-ghost use Rattle.std.specs.Prelude.{◌≡◌, IfOk, true, [], codes, if◌then◌else◌};
+ghost use Rattle.std.specs.Prelude.{◌≡◌, IfOk, [], if◌then◌else◌};
 ghost use Rattle.http.specs.Request.{head_of};
 ghost use Rattle.http_uri.specs.Uri.{uri_path};
 ghost use Rattle.gw_page.specs.Rows.{Shows};
 ghost use Rattle.gw_page.specs.Samples.{samples};
-ghost use Rattle.gw_page.specs.Answers.{Answers, Gives, IsPage, is_well, status_of};
+ghost use Rattle.gw_page.specs.Answers.{Answers, Gives, IsPage, status_of};
+ghost use Rattle.gw_page.specs.Health.{is_well, health};
 
 use crate::Figures;
 use crate::exposition::metrics;
@@ -64,7 +65,7 @@ fn of_metrics(alloc: Global, figures: &Figures) -> Result<Content, AllocError>
 
 fn of_health(alloc: Global, figures: &Figures) -> Result<Content, AllocError>
     ensures status { IfOk result (λ c. c.status ≡ (if is_well figures.now then 200 else 503)) }
-    ensures text { IfOk result (λ c. is_well figures.now ≡ true → c.text.items ≡ codes "ok\n") }
+    ensures text { IfOk result (λ c. c.text.items ≡ health figures.now) }
 {
     let status = if is_well(figures) {
         StatusCode::OK

@@ -6,8 +6,9 @@ use crate::texts::{put, put_number, put_printed};
 use crate::{Figures, Receiver};
 use std::alloc::{AllocError, Global};
 
+/// Adds words with a number behind them.
 #[tactic(auto, unfolding(crate::specs::Status::field))]
-fn put_field(out: &mut Vec<u8>, words: &[u8], number: u64) -> Result<(), AllocError>
+pub(crate) fn put_field(out: &mut Vec<u8>, words: &[u8], number: u64) -> Result<(), AllocError>
     ensures { OnOk result (out.new.items ≡ out.old.items ++ field words.now number) }
 {
     put(out, words)?;
@@ -54,6 +55,7 @@ fn put_numbers(out: &mut Vec<u8>, receiver: &Receiver) -> Result<(), AllocError>
     put_field(out, b" wait, the first for ", receiver.oldest)?;
     put_field(out, b" s, taken ", receiver.aa)?;
     put_field(out, b", refused ", receiver.refused)?;
+    put_field(out, b", lie refused ", receiver.lying)?;
     put(out, b"\n")
 }
 
@@ -127,6 +129,7 @@ fn put_counted(out: &mut Vec<u8>, receiver: &Receiver) -> Result<(), AllocError>
     put_field(out, b",\"first_waits_seconds\":", receiver.oldest)?;
     put_field(out, b",\"taken\":", receiver.aa)?;
     put_field(out, b",\"refused\":", receiver.refused)?;
+    put_field(out, b",\"lie_refused\":", receiver.lying)?;
     put(out, b"}")
 }
 

@@ -4,6 +4,9 @@ use std::alloc::{AllocError, Global};
 use std::env::{Env, args};
 use std::io;
 
+/// The program's version.
+pub(crate) const VERSION: &str = "0.1.0";
+
 /// The words that the process was started with.
 pub(crate) fn process_words<R: Env + AllocGlobal>(rt: &R) -> io::Result<Vec<String>> {
     let words: Vec<String> = args(rt)?.collect(rt.alloc())?;
@@ -39,6 +42,11 @@ const ON_GATEWAY: &[(&str, &str, &str)] = &[
         "status",
         "ADDRESS",
         "The address of a page, metrics and health over HTTP; without a host it is on this machine alone [default: none]",
+    ),
+    (
+        "late",
+        "SECONDS",
+        "After how many seconds a receiver that takes nothing, or isn't connected, is late, from 1 to 86400 [default: 60]",
     ),
     (
         "take-plan",
@@ -300,7 +308,7 @@ fn command<'a>(alloc: Global, form: &Form) -> Result<Command<'a>, AllocError> {
 fn program<'a>(alloc: Global) -> Result<Command<'a>, AllocError> {
     let program = Command::new(alloc, "hl7gate")
         .bin_name("hl7gate")?
-        .version("0.1.0")
+        .version(VERSION)
         .about("A message gateway for HL7 v2.5.1")
         .after_help(
             "Statuses: 0 done, 1 refused, 2 usage, 3 read, write or frame fault, 4 out of memory\nThe numbers on standard error are explained in docs/PROGRAM.md",

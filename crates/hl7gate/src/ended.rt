@@ -11,8 +11,8 @@ pub(crate) enum Ended<'a> {
     Stamp,
     /// The place isn't a number.
     Place,
-    /// The word isn't a number from 1 to 1,000.
-    Count { name: &'a str },
+    /// The word isn't a number from 1 to `most`.
+    Count { name: &'a str, most: u64 },
     /// The address can't be listened on.
     Unheard { address: &'a str },
     /// The file can't be opened or read.

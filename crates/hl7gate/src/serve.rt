@@ -21,18 +21,40 @@ use std::sync::ledger::{Blank, Ledger};
 use std::sync::{Arc, Wait};
 use std::thread::Threads;
 
-/// The number that a word gives, or else this one: from 1 to 1,000, in decimal digits.
-pub(crate) fn count_or<'a>(
+/// How many connections there are at most, and how many workers.
+const MOST: u64 = 1_000;
+
+/// The most seconds after which a receiver is late: a day.
+const LATEST: u64 = 86_400;
+
+/// The number that a word gives, or else this one: from 1 to `most`, in decimal digits.
+fn count_or<'a>(
     words: &ArgMatches<'a>,
     name: &'static str,
     other: &'static str,
+    most: u64,
 ) -> Result<u64, Ended<'a>> {
     let word = words.get_str(name).unwrap_or(other);
     // (a number that is parsed may have a sign)
     match word.parse::<u64>() {
-        Ok(number) if !word.starts_with('+') && 1 <= number && number <= 1000 => Ok(number),
-        _ => Err(Ended::Count { name }),
+        Ok(number) if !word.starts_with('+') && 1 <= number && number <= most => Ok(number),
+        _ => Err(Ended::Count { name, most }),
     }
+}
+
+/// The limits of a gateway: how many connections are open at once, and after how many seconds a receiver is late.
+#[derive(Clone, Copy)]
+pub(crate) struct Limits {
+    pub(crate) connections: u64,
+    pub(crate) late: u64,
+}
+
+/// The limits that the words give, or else 1,000 connections and a minute.
+pub(crate) fn limits_of<'a>(words: &ArgMatches<'a>) -> Result<Limits, Ended<'a>> {
+    Ok(Limits {
+        connections: count_or(words, "connections", "1000", MOST)?,
+        late: count_or(words, "late", "60", LATEST)?,
+    })
 }
 
 /// The lines to the receivers of a plan, in its order.
@@ -101,8 +123,8 @@ fn serve<
 >(rt: &R, words: &ArgMatches<'a>, paths: I) -> Result<Served, Ended<'a>> {
     // (neither word may be left out)
     let sizes = Sizes {
-        sessions: count_or(words, "SESSIONS", "")?,
-        workers: count_or(words, "WORKERS", "")?,
+        sessions: count_or(words, "SESSIONS", "", MOST)?,
+        workers: count_or(words, "WORKERS", "", MOST)?,
     };
     let Some(start) = stamp_of(rt, None) else {
         return Err(Ended::Stamp);

@@ -1,9 +1,11 @@
 //! Connections of senders and to receivers, as `serve` and `gateway` make them.
 use crate::ended::Ended;
 use clap::ArgMatches;
+use libc::gethostname;
 use libc::net::{
     IPPROTO_TCP, SO_KEEPALIVE, SO_RCVTIMEO, SOL_SOCKET, TCP_KEEPIDLE, TCP_USER_TIMEOUT, setsockopt,
 };
+use std::alloc::{AllocError, Global};
 use std::io::{Eprint, ErrorKind};
 use std::net::{Net, TcpListener, TcpStream, ToSocketAddrs};
 use std::os::fd::{AsRawFd, RawFd};
@@ -104,4 +106,28 @@ pub(crate) fn is_ended(stream: &TcpStream) -> bool {
         Ok(count) => count == 0,
         Err(error) => error.kind() != ErrorKind::WouldBlock,
     }
+}
+
+/// The most bytes of a machine's name, with the 0 behind it.
+const NAME: usize = 256;
+
+/// The machine's name. It is empty where the system doesn't say it.
+pub(crate) fn host_name(alloc: Global) -> Result<Vec<u8>, AllocError> {
+    let mut name = [0u8; NAME];
+    if gethostname(&mut name) != 0 {
+        return Ok(Vec::new(alloc));
+    }
+    let end = name.iter().position(|byte| *byte == 0).unwrap_or(0);
+    Vec::from_slice(alloc, name.get(..end).unwrap_or(&[]))
+}
+
+/// The address that a word means: without a host it is on this machine alone.
+pub(crate) fn address_of(alloc: Global, word: &str) -> Result<String, AllocError> {
+    if word.starts_with(':') {
+        return format!(in alloc; "127.0.0.1{word}");
+    }
+    if word.bytes().all(|byte| byte.is_ascii_digit()) {
+        return format!(in alloc; "127.0.0.1:{word}");
+    }
+    String::from_str(alloc, word)
 }

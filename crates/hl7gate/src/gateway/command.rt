@@ -9,7 +9,7 @@ use crate::gateway::forwarders::forward_all;
 use crate::gateway::hub::Hub;
 use crate::gateway::late::look_at_all;
 use crate::gateway::opening::plan_of;
-use crate::gateway::page::{Pages, show_all};
+use crate::gateway::page::{Pages, SHOWN, show_all};
 use crate::gateway::plans::begin_lines;
 use crate::gateway::resend::resend_all;
 use crate::gateway::senders::{attend, next_sender};
@@ -17,7 +17,7 @@ use crate::gateway::{control, opening};
 use crate::plans::read_plan;
 use crate::report::DONE;
 use crate::runtime::Runtime;
-use crate::serve::count_or;
+use crate::serve::{Limits, limits_of};
 use crate::sockets::{listen, listen_briefly};
 use crate::stamps::{microseconds, stamp_of};
 use clap::ArgMatches;
@@ -40,9 +40,6 @@ use std::sync::{Arc, Wait};
 use std::thread;
 use std::thread::Threads;
 use std::time::{Clock, Duration};
-
-/// How many connections are open at once, where the words don't say.
-const CONNECTIONS: &str = "1000";
 
 /// After how many fifths of a second the room on the disk is looked at again.
 const LOOK: u64 = 25;
@@ -120,18 +117,22 @@ fn go_on<
             let hear = move ||
                 requires { IsSend S.row × IsSync S.row × IsSync R.row }
             { attend_all(hub, control) };
-            let show = move ||
-                requires { IsSend S.row × IsSync S.row × IsSync R.row }
-            { show_all(hub, pages) };
             let again = move ||
                 requires { IsSend S.row × IsSync S.row × IsSync R.row }
             { resend_all(hub) };
             let has_all = scope.spawn(look).is_ok()
                 && scope.spawn(hear).is_ok()
-                && scope.spawn(show).is_ok()
                 && scope.spawn(again).is_ok();
             if !has_all {
                 hub.fail(RunFault::Memory);
+            }
+            for _ in 0..SHOWN {
+                let show = move ||
+                    requires { IsSend S.row × IsSync S.row × IsSync R.row }
+                { show_all(hub, pages) };
+                if pages.is_some() && scope.spawn(show).is_err() {
+                    hub.fail(RunFault::Memory);
+                }
             }
             for _ in hub.rt.forever() {
                 if hub.has_ended() {
@@ -188,6 +189,7 @@ fn begin<'f, 'a, J: Naming, S: Storage + Drop, R: Runtime + Wait>(
     ledger: Ledger<J, S, ByPlans>,
     plan: Arc<Plan>,
     start: Stamp,
+    late: u64,
     folder: &'f Folder,
 ) -> Result<Hub<'f, J, S, R>, Ended<'a>> {
     let alloc = rt.alloc();
@@ -198,7 +200,7 @@ fn begin<'f, 'a, J: Naming, S: Storage + Drop, R: Runtime + Wait>(
         Err(PutFault::Memory) => return Err(Ended::Run(RunFault::Memory)),
         Err(_) => return Err(Ended::Unwritten { file }),
     };
-    let hub = Hub::new(rt, alloc, start, folder, Journal::new(alloc, office))?;
+    let hub = Hub::new(rt, alloc, start, late, folder, Journal::new(alloc, office))?;
     if hub.journal.settle(rt, &ticket).is_err() {
         return Err(Ended::Unwritten { file });
     }
@@ -215,21 +217,21 @@ fn keep<
 >(
     rt: &R,
     words: &ArgMatches<'a>,
-    most: u64,
+    limits: Limits,
     start: Stamp,
     plan: Arc<Plan>,
     ledger: Ledger<J, Stored<Checkpoints, D>, ByPlans>,
 ) -> Result<u8, Ended<'a>> {
     let path = words.get_str("FOLDER").unwrap_or("");
     let folder = Folder::open(rt, path)?;
-    let hub = begin(rt, ledger, plan, start, &folder)?;
+    let hub = begin(rt, ledger, plan, start, limits.late, &folder)?;
     print_waiting(&hub);
     begin_lines(&hub)?;
     look_at_disk(&hub);
     let control = control::listen(rt, path)?;
     let senders = listen(rt, words)?;
     let pages = Pages::listen(rt, words)?;
-    go_on(&hub, &control, senders, pages.as_ref(), most);
+    go_on(&hub, &control, senders, pages.as_ref(), limits.connections);
     let Some(fault) = hub.fault() else {
         return Ok(DONE);
     };
@@ -250,7 +252,7 @@ fn run<
 >(
     rt: &R,
     words: &ArgMatches<'a>,
-    most: u64,
+    limits: Limits,
     start: Stamp,
     plan: Arc<Plan>,
     opened: Opened,
@@ -260,7 +262,7 @@ fn run<
     requires before { J.before ≡ begun.before }
 {
     let ledger = begun.into_ledger::<J>(rt.alloc(), opened, LONG);
-    keep(rt, words, most, start, plan, ledger)
+    keep(rt, words, limits, start, plan, ledger)
 }
 
 /// Keeps what it accepts in FOLDER, under the plan of the file PLAN, at ADDRESS, and answers the status.
@@ -270,7 +272,7 @@ pub(crate) fn gateway<
     F: Found<ByPlans> + Send + Sync,
     R: Runtime + Threads + Wait + Net<Stream = TcpStream, Listener = TcpListener>,
 >(rt: &R, words: &ArgMatches<'a>) -> Result<u8, Ended<'a>> {
-    let most = count_or(words, "connections", CONNECTIONS)?;
+    let limits = limits_of(words)?;
     let Some(start) = stamp_of(rt, None) else {
         return Err(Ended::Stamp);
     };
@@ -279,5 +281,5 @@ pub(crate) fn gateway<
     refuse_spools(rt, path)?;
     let begun = opening::open::<F, R>(rt, path)?;
     let plan = plan_of(rt, words, plan, begun.state(), begun.tail())?;
-    run::<Brand, F, R>(rt, words, most, start, plan, Opened::new(), begun)
+    run::<Brand, F, R>(rt, words, limits, start, plan, Opened::new(), begun)
 }

@@ -23,7 +23,7 @@ const PAGE: &[u8] =
     b"The log of a gateway for HL7 messages (hl7gate gateway): what it accepted, and what its receivers took.
 
 N.segment     the log, in numbered files; `hl7gate log FOLDER` lists it. Don't edit them: a changed byte is damage
-refusals.log  a line for each message that was answered AE or AR, and for each receiver whose first waits for more than a minute.
+refusals.log  a line for each message that was answered AE or AR, and for each receiver whose first waits for long (--late).
               At 64 MB it is refusals.log.1, and a new one is begun
 reserve       room on the disk for what was accepted, used when the disk is full
 control       the socket of `hl7gate tell FOLDER`

@@ -20,6 +20,8 @@ const TURNS: u64 = 64;
 pub(crate) struct Hub<'f, J: Naming, S: Storage + Drop, R: Wait> {
     pub(crate) rt: &'f R,
     pub(crate) start: Stamp,
+    /// After how many seconds a receiver is late.
+    pub(crate) late: u64,
     pub(crate) folder: &'f Folder,
     pub(crate) journal: Journal<J, Office<J, S>>,
     pub(crate) plans: Plans,
@@ -47,12 +49,14 @@ impl<'f, J: Naming, S: Storage + Drop, R: Wait> Hub<'f, J, S, R> {
         rt: &'f R,
         alloc: Global,
         start: Stamp,
+        late: u64,
         folder: &'f Folder,
         journal: Journal<J, Office<J, S>>,
     ) -> Result<Self, AllocError> {
         Ok(Hub {
             rt,
             start,
+            late,
             folder,
             journal,
             plans: Plans::new(alloc),

@@ -6,15 +6,13 @@ use gw_delivery::Keeper;
 use gw_folder::FolderView;
 use gw_journal::{Naming, Storage};
 use gw_ledger::needed_from;
+use gw_log::Calls;
 use std::alloc::AllocError;
 use std::fs::File;
 use std::io::Eprint;
 use std::rt::Files;
 use std::sync::Wait;
 use std::time::Clock;
-
-/// For how many seconds a message waits without a line.
-const LONG: u64 = 60;
 
 /// Reports on standard error, and behind the time in the log of refusals, that messages wait for long, or don't any more.
 fn report<J: Naming, S: Storage + Drop, R: Wait + Clock + Eprint + AllocGlobal>(
@@ -23,12 +21,12 @@ fn report<J: Naming, S: Storage + Drop, R: Wait + Clock + Eprint + AllocGlobal>(
     waiting: u64,
     is_late: bool,
 ) -> Result<(), AllocError> {
-    let alloc = hub.rt.alloc();
+    let (alloc, late) = (hub.rt.alloc(), hub.late);
     let name = line.name.escape_ascii();
     let said = if is_late {
-        format!(in alloc; "receiver {name}: {waiting} wait, the first for more than {LONG} s")?
+        format!(in alloc; "receiver {name}: {waiting} wait, the first for more than {late} s")?
     } else {
-        format!(in alloc; "receiver {name}: none waits for more than {LONG} s any more")?
+        format!(in alloc; "receiver {name}: none waits for more than {late} s any more")?
     };
     let _ = eprintln!(hub.rt; "{said}");
     let stamp = stamp_of(hub.rt, None).unwrap_or(hub.start);
@@ -47,10 +45,22 @@ pub(crate) fn look_at_all<J: Naming, S: Storage + Drop, R: Wait + Clock + Eprint
     for line in &lines {
         let waiting = hub.left_for(line.number);
         line.set_left(hub.rt, waiting, false);
-        if let Some(is_late) = line.turn_late(hub.rt, LONG) {
+        if let Some(is_late) = line.turn_late(hub.rt, hub.late) {
             let _ = report(hub, line, waiting, is_late);
         }
     }
+}
+
+/// Counts what lies refused by each receiver.
+fn count_lying<J: Naming, S: Storage + Drop, R: Wait + AllocGlobal, V: Calls + Drop>(
+    hub: &Hub<'_, J, S, R>,
+    keeper: &Keeper<V>,
+) -> Result<(), AllocError> {
+    let lines = hub.lines.all(hub.rt, hub.rt.alloc())?;
+    for line in &lines {
+        line.set_lying(hub.rt, keeper.refused(line.number)?.len() as u64);
+    }
+    Ok(())
 }
 
 /// Has the files go that aren't needed: they go when the next file is begun. None: what was read of them has to be read again.
@@ -77,6 +87,7 @@ pub(crate) fn look_at_files<
     drop(office);
     match keeper.read_to(hub.tail(), next) {
         Ok(true) => {
+            let _ = count_lying(hub, &keeper);
             let needed = keeper.needed(left);
             hub.journal.lock(hub.rt).ledger.keep_from(needed);
         }

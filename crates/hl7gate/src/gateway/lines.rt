@@ -28,6 +28,8 @@ pub(crate) struct Stand {
     pub(crate) aa: u64,
     pub(crate) ae: u64,
     pub(crate) ar: u64,
+    /// How many messages lie refused by it.
+    pub(crate) lying: u64,
 }
 
 /// For how many seconds something has been so.
@@ -86,6 +88,7 @@ impl Line {
                 aa: 0,
                 ae: 0,
                 ar: 0,
+                lying: 0,
             }),
             bell: Condvar::new(),
         }
@@ -189,6 +192,11 @@ impl Line {
         } else if is_next || stand.since.is_none() {
             stand.since = now;
         }
+    }
+
+    /// As many messages lie refused by it now.
+    pub(crate) fn set_lying<R: Wait>(&self, rt: &R, lying: u64) {
+        self.stand.lock(rt).lying = lying;
     }
 
     /// A message is sent.

@@ -96,7 +96,7 @@ pub(crate) fn reject<J: Naming, S: Storage + Drop, R: Wait + Clock + Eprint + Al
         return Ok(());
     };
     let block = block_of(hub, alloc, &header, number)?;
-    let mut writer = Logged::new(alloc, hub, stream, sender.number);
+    let mut writer = Logged::new(alloc, hub, sender);
     if writer.write_all(&block).is_ok() {
         let _ = stream.shutdown(Shutdown::Write);
         read_rest(hub, stream);

@@ -1,15 +1,16 @@
-//! The page, the metrics and the health of a gateway, over HTTP: one connection at a time, for five seconds at most.
+//! The page, the metrics and the health of a gateway, over HTTP: a few connections at a time, each for five seconds at most.
+use crate::arguments::VERSION;
 use crate::ended::Ended;
 use crate::gateway::hub::Hub;
 use crate::gateway::lines::{Line, Stand};
-use crate::sockets::{listen_briefly, pause};
+use crate::sockets::{address_of, host_name, listen_briefly, pause};
 use crate::stamps::{stamp_of, time_in};
 use clap::ArgMatches;
 use gw_due::Receiver as Noted;
 use gw_journal::{Naming, Storage};
 use gw_page::{Figures, Receiver, Seen, answer, status, status_json};
 use gw_stream::RunFault;
-use std::alloc::{AllocError, Global};
+use std::alloc::AllocError;
 use std::hash::RandomState;
 use std::io;
 use std::io::{Eprint, Error, ErrorKind, Read, Write};
@@ -25,6 +26,9 @@ const PATIENCE: u64 = 5;
 
 const CLOSE: u64 = 1;
 
+/// How many connections are answered at once.
+pub(crate) const SHOWN: u64 = 8;
+
 /// How many milliseconds a read or a write waits before the gateway is looked at.
 const LOOK: u64 = 200;
 
@@ -38,17 +42,6 @@ const PIECES: u64 = 256;
 pub(crate) struct Pages {
     listener: TcpListener,
     keys: RandomState,
-}
-
-/// The address that a word means: without a host it is on this machine alone.
-fn address_of(alloc: Global, word: &str) -> Result<String, AllocError> {
-    if word.starts_with(':') {
-        return format!(in alloc; "127.0.0.1{word}");
-    }
-    if word.bytes().all(|byte| byte.is_ascii_digit()) {
-        return format!(in alloc; "127.0.0.1:{word}");
-    }
-    String::from_str(alloc, word)
 }
 
 impl Pages {
@@ -94,6 +87,7 @@ fn receiver_of<R: Clock + AllocGlobal>(
         ae: stand.ae,
         ar: stand.ar,
         refused: noted.refused(),
+        lying: stand.lying,
     })
 }
 
@@ -137,6 +131,9 @@ fn figures_of<J: Naming, S: Storage + Drop, R: Wait + Clock + AllocGlobal>(
         refused,
     } = hub.watch.seen(hub.rt, hub.rt.alloc())?;
     Ok(Figures {
+        version: Vec::from_slice(hub.rt.alloc(), VERSION.as_bytes())?,
+        host: host_name(hub.rt.alloc())?,
+        late: hub.late,
         time: time_in(stamp_of(hub.rt, None).unwrap_or(hub.start).digits()),
         plan: hub.taken.load(Ordering::SeqCst),
         accepted: hub.accepted.load(Ordering::SeqCst),
@@ -164,7 +161,7 @@ pub(crate) fn state<J: Naming, S: Storage + Drop, R: Wait + Clock + AllocGlobal>
     status(hub.rt.alloc(), &figures)
 }
 
-/// A connection that is read and written up to a moment, or until the gateway ends or its receivers change.
+/// A connection that is read and written up to a moment, or until the gateway ends.
 #[derive(Drop)]
 struct Patient<'a, 'f, J: Naming, S: Storage + Drop, R: Wait> {
     hub: &'a Hub<'f, J, S, R>,
@@ -265,7 +262,7 @@ fn show<J: Naming, S: Storage + Drop, R: Wait + Clock + AllocGlobal>(
     pass_over(hub, stream)
 }
 
-/// Answers one connection after another, while the receivers stay.
+/// Answers one connection after another, until the gateway ends. Several threads do.
 pub(crate) fn show_all<J: Naming, S: Storage + Drop, R: Wait + Clock + AllocGlobal>(
     hub: &Hub<'_, J, S, R>,
     pages: Option<&Pages>,

@@ -1,5 +1,6 @@
 //! What is noted of each answer that isn't AA: a line of the log, which has the message's control id, and what the page shows, which hasn't.
 use crate::gateway::hub::Hub;
+use crate::gateway::senders::Sender;
 use crate::stamps::time_in;
 use gw_er7::{Message, Place, Segment, read};
 use gw_journal::{Naming, Storage};
@@ -9,7 +10,7 @@ use memchr::memmem::find;
 use std::alloc::{AllocError, Global};
 use std::io;
 use std::io::{Eprint, Error, ErrorKind, Write};
-use std::net::TcpStream;
+use std::net::SocketAddr;
 use std::sync::Wait;
 
 /// How many milliseconds one write waits for its sender.
@@ -20,30 +21,26 @@ const TURNS: u64 = 290;
 
 const LAST_TURNS: u64 = 5;
 
+/// The most bytes of MSH-3, and of MSH-4, that are noted: their length in HL7 v2.5.1, 2.15.9.
+const LONGEST: usize = 227;
+
 /// A sender's connection as its answers are written, with the log.
 #[derive(Drop)]
 pub(crate) struct Logged<'a, 'f, J: Naming, S: Storage + Drop, R: Wait> {
     alloc: Global,
     hub: &'a Hub<'f, J, S, R>,
-    stream: &'a TcpStream,
-    session: u64,
+    sender: &'a Sender,
     answers: Decoder,
     // how many times an answer was waited for since the gateway ends
     late: u64,
 }
 
 impl<'a, 'f, J: Naming, S: Storage + Drop, R: Wait> Logged<'a, 'f, J, S, R> {
-    pub(crate) fn new(
-        alloc: Global,
-        hub: &'a Hub<'f, J, S, R>,
-        stream: &'a TcpStream,
-        session: u64,
-    ) -> Self {
+    pub(crate) fn new(alloc: Global, hub: &'a Hub<'f, J, S, R>, sender: &'a Sender) -> Self {
         Logged {
             alloc,
             hub,
-            stream,
-            session,
+            sender,
             answers: Decoder::new(alloc),
             late: 0,
         }
@@ -68,7 +65,7 @@ impl<'a, 'f, J: Naming, S: Storage + Drop, R: Wait> Logged<'a, 'f, J, S, R> {
 
     // Notes an answer that isn't AA.
     fn note(&self, answer: &Message) -> Result<(), AllocError> {
-        let refusal = refusal_of(self.alloc, self.session, answer)?;
+        let refusal = refusal_of(self.alloc, self.sender, answer)?;
         let control = word_of(self.alloc, answer, b"MSA", 2)?;
         let line = line_of(self.alloc, &refusal, &control)?;
         self.hub.watch.note(self.hub.rt, refusal);
@@ -80,7 +77,7 @@ impl<'a, 'f, J: Naming, S: Storage + Drop, R: Wait> Logged<'a, 'f, J, S, R> {
 impl<J: Naming, S: Storage + Drop, R: Wait + Eprint> Logged<'_, '_, J, S, R> {
     // Writes as much as the sender takes in time. Once the gateway ends it has less time.
     fn send(&mut self, buf: &[u8]) -> io::Result<usize> {
-        let mut stream = self.stream;
+        let mut stream = &self.sender.stream;
         for _turn in 0..TURNS {
             match stream.write(buf) {
                 Err(error) if error.kind() == ErrorKind::WouldBlock => {}
@@ -93,7 +90,7 @@ impl<J: Naming, S: Storage + Drop, R: Wait + Eprint> Logged<'_, '_, J, S, R> {
                 break;
             }
         }
-        let session = self.session;
+        let session = self.sender.number;
         let _ = eprintln!(self.hub.rt;
             "session {session}: its sender didn't take an answer in time"
         );
@@ -152,50 +149,71 @@ fn word_of(
     }
 }
 
-/// The place in the message, as ERR has it.
-fn place_of(alloc: Global, answer: &Message) -> Result<Vec<u8>, AllocError> {
-    let mut place = Vec::new(alloc);
-    let Some(error) = segment_of(answer, b"ERR") else {
-        return Ok(place);
+/// The texts of a field's components. They are none where the answer hasn't the field.
+fn field_of(
+    alloc: Global,
+    answer: &Message,
+    name: &[u8; 3],
+    field: usize,
+) -> Result<Vec<u8>, AllocError> {
+    let mut texts = Vec::new(alloc);
+    let Some(segment) = segment_of(answer, name) else {
+        return Ok(texts);
     };
-    for comp in 1..=error.comps(2, 1) {
+    for comp in 1..=segment.comps(field, 1) {
         if comp > 1 {
-            place.push(b'^')?;
+            texts.push(b'^')?;
         }
-        place.extend_from_slice(error.text(Place {
-            field: 2,
+        texts.extend_from_slice(segment.text(Place {
+            field,
             rep: 1,
             comp,
             sub: 1,
         }))?;
     }
-    Ok(place)
+    Ok(texts)
 }
 
-/// What the page shows of an answer: of the message its place alone, no value and no control id.
-fn refusal_of(alloc: Global, session: u64, answer: &Message) -> Result<Refusal, AllocError> {
+/// Who sent a message: the address of the connection, and MSH-3 and MSH-4 where they could be read. An answer has these as MSH-5 and MSH-6.
+fn from_of(alloc: Global, peer: SocketAddr, answer: &Message) -> Result<Vec<u8>, AllocError> {
+    let mut name = field_of(alloc, answer, b"MSH", 5)?;
+    let mut place = field_of(alloc, answer, b"MSH", 6)?;
+    name.truncate(LONGEST);
+    place.truncate(LONGEST);
+    let from = if name.is_empty() && place.is_empty() {
+        format!(in alloc; "{peer}")?
+    } else {
+        format!(in alloc; "{peer} {}|{}", name.escape_ascii(), place.escape_ascii())?
+    };
+    Ok(from.into_bytes())
+}
+
+/// What the page shows of an answer: of the message its sender and its place alone, no other value and no control id.
+fn refusal_of(alloc: Global, sender: &Sender, answer: &Message) -> Result<Refusal, AllocError> {
     Ok(Refusal {
         time: time_in(&word_of(alloc, answer, b"MSH", 7)?),
-        session,
+        session: sender.number,
+        from: from_of(alloc, sender.peer, answer)?,
         number: word_of(alloc, answer, b"MSH", 10)?,
         answer: word_of(alloc, answer, b"MSA", 1)?,
         code: word_of(alloc, answer, b"ERR", 3)?,
-        place: place_of(alloc, answer)?,
+        place: field_of(alloc, answer, b"ERR", 2)?,
     })
 }
 
-/// The line of an answer: its time, the session, its number, the message's control id, MSA-1, and the code and place of ERR.
+/// The line of an answer: its time, the session, its number, the message's control id, MSA-1, the code and place of ERR, and who sent the message.
 fn line_of(alloc: Global, refusal: &Refusal, control: &[u8]) -> Result<String, AllocError> {
     let session = refusal.session;
     let control = if control.is_empty() { b"-" } else { control };
     let gap = if refusal.place.is_empty() { "" } else { " " };
     format!(in alloc;
-        "{} session {session} {} {} {} {}{gap}{}\n",
+        "{} session {session} {} {} {} {}{gap}{} from {}\n",
         refusal.time.escape_ascii(),
         refusal.number.escape_ascii(),
         control.escape_ascii(),
         refusal.answer.escape_ascii(),
         refusal.code.escape_ascii(),
-        refusal.place.escape_ascii()
+        refusal.place.escape_ascii(),
+        str::from_utf8(&refusal.from).unwrap_or("")
     )
 }

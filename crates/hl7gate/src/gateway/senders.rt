@@ -15,11 +15,12 @@ use std::sync::Wait;
 use std::sync::atomic::Ordering;
 use std::time::{Clock, Duration};
 
-/// A sender's connection, and its number, from 1.
+/// A sender's connection, its number, from 1, and the address of its other end.
 #[derive(Drop)]
 pub(crate) struct Sender {
     pub(crate) number: u64,
     pub(crate) stream: TcpStream,
+    pub(crate) peer: SocketAddr,
 }
 
 /// The forwarders' bells.
@@ -54,12 +55,7 @@ fn answer<J: Naming, S: Storage + Drop, R: Wait + AllocGlobal + Clock + Eprint>(
     let clock = Utc::new(hub.rt, hub.start);
     let bells = Ringing { hub };
     let mut judge = AtLog::new(alloc, hub.rt, &hub.journal, clock, &bells);
-    let mut writer = Handed::new(Writes::new(Logged::new(
-        alloc,
-        hub,
-        &sender.stream,
-        sender.number,
-    )));
+    let mut writer = Handed::new(Writes::new(Logged::new(alloc, hub, sender)));
     let mut reader = Reads::new(&mut sent);
     let answered = answer_sender(alloc, &mut judge, &mut reader, &mut writer);
     sent.give_turn();
@@ -108,7 +104,11 @@ fn welcome<J: Naming, S: Storage + Drop, R: Wait + Eprint>(
     let _ = stream.set_nodelay(true);
     let _ = stream.set_write_timeout(Some(Duration::from_millis(TURN)));
     watch(&stream);
-    Some(Sender { number, stream })
+    Some(Sender {
+        number,
+        stream,
+        peer,
+    })
 }
 
 /// The next session, where at most as many connections are open. It is waited for a quarter of a second.
