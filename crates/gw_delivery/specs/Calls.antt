@@ -6,7 +6,8 @@ use Rattle.gw_journal.specs.declared.event.Event as happened
 use Rattle.gw_ledger.specs.Backlogs.{Between, HasPassed, WasFirst}
 use Rattle.gw_delivery.specs.Delivering.{IsRunBetween}
 
--- what a call did: it sent what was due at these places; or it had the receiver pass what was due at this one, and didn't send it
+-- what a call did: it sent what was due at these places; or it had the receiver pass what was due at this one, and didn't send it:
+-- it can't be made, or a person has it passed over
 pub data Call : Type 0 where
   sends : (places : List ℕ) → Call
   puts_aside : (place : ℕ) → Call

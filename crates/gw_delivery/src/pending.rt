@@ -1,6 +1,5 @@
 //! What waits for a receiver, as its forwarder takes it.
 ghost use Rattle.std.specs.Prelude.{◌≡◌, ◌+◌, ◌∷◌, [], IfOk, IfSome, IsNone, IsSome, IsTrue, IsFalse, OnOk, OnErr, Some, None};
-ghost use Rattle.gw_ack.specs.declared.receipt.Ack.TheVariants.{AR};
 ghost use Rattle.gw_due.specs.Views as view;
 ghost use Rattle.gw_ledger.specs.Backlogs.{GoesOn, WasFirst};
 ghost use Rattle.gw_delivery.specs.Waiting as spec;
