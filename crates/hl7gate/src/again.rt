@@ -5,7 +5,7 @@ use crate::stamps::microseconds;
 use crate::store::{Unanswered, next_of, view_of};
 use gw_civil::utc_text;
 use gw_delivery::{Keeper, PageFault, Pages};
-use gw_due::{Event, ReadFault, read};
+use gw_due::{Entry, Event, ReadFault, read};
 use gw_folder::FolderView;
 use gw_journal::{Naming, Storage};
 use gw_ledger::Message;
@@ -132,8 +132,8 @@ fn kept<'f, J: Naming, S: Storage + Drop, R: Runtime + Wait>(
 /// The receivers of the message that was accepted by this record, and its time. None: none was.
 fn route_of(alloc: Global, bytes: &[u8]) -> Result<Option<(Vec<u32>, u64)>, AllocError> {
     match read(alloc, bytes) {
-        Ok(entry) => match entry.event {
-            Event::Accepted { to, .. } => Ok(Some((to, entry.time))),
+        Ok(Entry { time, event }) => match event {
+            Event::Accepted { to, .. } => Ok(Some((to, time))),
             _ => Ok(None),
         },
         Err(ReadFault::Memory) => Err(AllocError),
