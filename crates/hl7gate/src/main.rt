@@ -31,6 +31,7 @@ mod sample;
 mod serve;
 mod sockets;
 mod stamps;
+mod stand;
 mod store;
 mod streams;
 mod swaps;
