@@ -13,11 +13,11 @@ spawn-requires-then-is_ok-send-F g c κs within =
 
 pub spawn-requires-then-is_ok-2-send-F : goal.spawn-requires-then-is_ok-2-send-F
 spawn-requires-then-is_ok-2-send-F g c κs within =
-    sent-two _ _ _ _ (Hub-shared _ _ _ (param 0 g.row.J) (param 1 g.row.S) (param 2 g.row.R) g.J.Naming g.S.Storage c.requires.0 c.requires.2) (Pages-shared _ _)
-
-pub spawn-requires-then-is_ok-3-send-F : goal.spawn-requires-then-is_ok-3-send-F
-spawn-requires-then-is_ok-3-send-F g c κs within =
     sent-one _ _ _ (Hub-shared _ _ _ (param 0 g.row.J) (param 1 g.row.S) (param 2 g.row.R) g.J.Naming g.S.Storage c.requires.0 c.requires.2)
+
+pub spawn-requires-then-is_some-send-F : goal.spawn-requires-then-is_some-send-F
+spawn-requires-then-is_some-send-F g c κs within =
+    sent-two _ _ _ _ (Hub-shared _ _ _ (param 0 g.row.J) (param 1 g.row.S) (param 2 g.row.R) g.J.Naming g.S.Storage c.requires.0 c.requires.2) (Pages-shared _ _)
 
 pub spawn-requires-in-Some-next_new-send-F : goal.spawn-requires-in-Some-next_new-send-F
 spawn-requires-in-Some-next_new-send-F g c κs within =
