@@ -265,8 +265,7 @@ fn run<
     keep(rt, words, limits, start, plan, ledger)
 }
 
-/// Keeps what it accepts in FOLDER, under the plan of the file PLAN, at ADDRESS, and answers the status.
-/// It does so for each log that the folder may have.
+/// Keeps what it accepts in FOLDER, under the plan of the file PLAN, at ADDRESS, and answers the status. It does so for each log that the folder may have.
 pub(crate) fn gateway<
     'a,
     F: Found<ByPlans> + Send + Sync,

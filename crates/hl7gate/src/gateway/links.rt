@@ -1,9 +1,11 @@
 //! The connection to a receiver: made, watched, written and read.
 use crate::gateway::hub::Hub;
 use crate::gateway::lines::Line;
+use crate::heard::Ears;
 use crate::sockets;
 use crate::sockets::{is_ended, watch};
 use gw_journal::{Naming, Storage};
+use std::alloc::Global;
 use std::cell::Cell;
 use std::io;
 use std::io::{Error, ErrorKind, Read, Write};
@@ -36,6 +38,16 @@ pub(crate) struct Answers<'a, 'f, J: Naming, S: Storage + Drop, R: Wait> {
     pub(crate) hub: &'a Hub<'f, J, S, R>,
     pub(crate) line: &'a Line,
     pub(crate) stream: &'a TcpStream,
+    pub(crate) alloc: Global,
+    pub(crate) ears: &'a Cell<Ears>,
+}
+
+impl<J: Naming, S: Storage + Drop, R: Wait> Answers<'_, '_, J, S, R> {
+    fn note(&self, read: &io::Result<usize>, room: &[u8]) {
+        let mut ears = self.ears.replace(Ears::new(self.alloc));
+        ears.note(read, room);
+        self.ears.set(ears);
+    }
 }
 
 impl<J: Naming, S: Storage + Drop, R: Wait> Read for Answers<'_, '_, J, S, R> {
@@ -44,14 +56,19 @@ impl<J: Naming, S: Storage + Drop, R: Wait> Read for Answers<'_, '_, J, S, R> {
             let mut stream = self.stream;
             match stream.read(buf) {
                 Err(error) if error.kind() == ErrorKind::WouldBlock => {}
-                read => return read,
+                read => {
+                    self.note(&read, buf);
+                    return read;
+                }
             }
             // (an acknowledgment that is due has had a second to come)
             if self.hub.has_ended() || self.line.stand(self.hub.rt).over.is_some() {
                 break;
             }
         }
-        Err(Error::from(ErrorKind::TimedOut))
+        let read = Err(Error::from(ErrorKind::TimedOut));
+        self.note(&read, buf);
+        read
     }
 }
 
