@@ -132,6 +132,7 @@ def passed_over(gateway):
     its = [LEFT["WARDS"][0].replace(b"LAB0007", b"LAB000%d" % it) for it in (1, 2, 3)]
     wards.has(its[:1], gateway.until)
     same("skip", (0, "skipped 4\n"), gateway.tell("skip", "WARDS"))
+    gateway.wait("receiver WARDS did not acknowledge a message: it is to be passed over; it is connected anew")
     wards.has(its[:2], gateway.until)
     same("park", (0, "parked 5\n"), gateway.tell("park", "WARDS"))
     wards.has(its, gateway.until)

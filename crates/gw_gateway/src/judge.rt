@@ -13,7 +13,7 @@ use crate::plans::InForce;
 use crate::waiting::Waiting;
 use gw_ack::{INTERNAL, Reply};
 use gw_crew::Clock;
-use gw_er7::{Message, write};
+use gw_er7::{Message, ReadFault, write};
 use gw_journal::{Journal, Naming, Storage};
 use gw_plan::{Conforming, Refusal, admit};
 use gw_stream::{Judge, Outcome, Withheld};
@@ -23,7 +23,7 @@ use std::sync::{Arc, Wait};
 /// How often a message is judged under a plan that is another one when it is appended.
 const MAX_TRIES: usize = 4;
 
-/// What wakes a receiver's forwarder.
+/// What wakes a receiver's forwarder, and hears what can't be read.
 pub trait Bells {
     /// Something is due to this receiver, and on the disk.
     fn ring(&self, receiver: u32);
@@ -33,6 +33,9 @@ pub trait Bells {
 
     /// As many messages were accepted, and are on the disk.
     fn accepted(&self, count: u64);
+
+    /// The content of this number in the stream can't be read. It says nothing of its answer.
+    fn unread(&self, number: u64, fault: ReadFault, content: &[u8]);
 }
 
 /// What gives the time of a record, in microseconds.
@@ -298,6 +301,10 @@ impl<J: Naming, S: Storage + Drop, R: Wait, C: Clock + Times + Drop, B: Bells> J
     ghost secures = { λ s t. Secures J.before s.waiting t.waiting };
 
     ghost withholds = { λ s t. GoesOn s.waiting t.waiting };
+
+    fn unread(&self, number: u64, fault: ReadFault, content: &[u8]) {
+        self.bells.unread(number, fault, content);
+    }
 
     fn judge(
         &mut self,

@@ -1,7 +1,7 @@
 //! Messages, judged as the gate behind a door settles them.
 use crate::arrival::settle;
 use gw_crew::{Clock, Door};
-use gw_er7::Message;
+use gw_er7::{Message, ReadFault};
 use gw_stream::{Judge, Outcome, Withheld};
 use std::alloc::{AllocError, Global};
 
@@ -27,6 +27,8 @@ impl<D: Door, C: Clock> Judge for AtDoor<'_, D, C> {
         × (D.noted t.door.now ≡ D.noted s.door.now) };
 
     ghost withholds = { λ s t. ⊥ };
+
+    fn unread(&self, _number: u64, _fault: ReadFault, _content: &[u8]) {}
 
     #[tactic(auto, using(crate::proofs::Meeting::settled_so))]
     fn judge(

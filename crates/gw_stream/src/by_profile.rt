@@ -5,7 +5,7 @@ ghost use Rattle.gw_stream.specs.own.Gathered.{ProfileSettles};
 
 use crate::judge::{Judge, Outcome, Withheld};
 use gw_ack::{INTERNAL, Reply, Stamp};
-use gw_er7::Message;
+use gw_er7::{Message, ReadFault};
 use gw_profile::Profile;
 use gw_validate::first_breach;
 use std::alloc::{AllocError, Global};
@@ -43,6 +43,8 @@ impl Judge for ByProfile {
     ghost secures = { λ s t. t ≡ s };
 
     ghost withholds = { λ s t. ⊥ };
+
+    fn unread(&self, _number: u64, _fault: ReadFault, _content: &[u8]) {}
 
     fn judge(
         &mut self,

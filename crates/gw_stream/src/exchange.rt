@@ -57,9 +57,12 @@ pub(crate) fn exchange<J: Judge>(
             let header = Header::of(alloc, &message)?;
             settle(alloc, judge, number, &header, Some(message))
         }
-        Err((fault, _content)) => match fault {
+        Err((fault, content)) => match fault {
             ReadFault::Memory => Err(AllocError),
-            _ => settle(alloc, judge, number, &Header::blank(alloc), None),
+            _ => {
+                judge.unread(number, fault, &content);
+                settle(alloc, judge, number, &Header::blank(alloc), None)
+            }
         },
     }
 }

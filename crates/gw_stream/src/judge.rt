@@ -1,6 +1,6 @@
 //! What settles the messages of a stream.
 use gw_ack::{Reply, Stamp};
-use gw_er7::Message;
+use gw_er7::{Message, ReadFault};
 use std::alloc::{AllocError, Global};
 
 /// What is said to a message, and the number and the stamp of its answer.
@@ -32,6 +32,9 @@ pub trait Judge {
 
     /// What it says of the judge before and after that this isn't known.
     ghost withholds: { Self → Self → Type 0 };
+
+    /// The content of this number in the stream can't be read, and will be judged as none. It says nothing of the outcome.
+    fn unread(&self, number: u64, fault: ReadFault, content: &[u8]);
 
     /// The outcome for what was read: a message, or none where it can't be read. `number` is its number in the stream. The one error is an allocation failure.
     fn judge(

@@ -9,7 +9,7 @@ ghost use Rattle.gw_stream.specs.own.Prepared.{AreWithin, Prepares, PlanSettles}
 use crate::delivery::{Delivery, prepare_deliveries};
 use crate::judge::{Judge, Outcome, Withheld};
 use gw_ack::{INTERNAL, Reply, Stamp};
-use gw_er7::Message;
+use gw_er7::{Message, ReadFault};
 use gw_plan::{Plan, Refusal, admit};
 use std::alloc::{AllocError, Global};
 use std::sync::Arc;
@@ -55,6 +55,8 @@ impl Judge for UnderPlan {
     ghost secures = { λ s t. Unit {0} };
 
     ghost withholds = { λ s t. ⊥ };
+
+    fn unread(&self, _number: u64, _fault: ReadFault, _content: &[u8]) {}
 
     fn judge(
         &mut self,

@@ -4,9 +4,11 @@
 #![tactic(auto)]
 
 mod again;
+mod answers;
 mod arguments;
 mod asked;
 mod breaches;
+mod came;
 mod contents;
 mod doors;
 mod ended;
@@ -31,6 +33,7 @@ mod sample;
 mod serve;
 mod sockets;
 mod stamps;
+mod stand;
 mod store;
 mod streams;
 mod swaps;

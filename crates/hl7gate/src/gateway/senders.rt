@@ -1,4 +1,5 @@
 //! Sessions: no answer goes out before what it answers is on the disk.
+use crate::came::Came;
 use crate::gateway::hub::Hub;
 use crate::gateway::overlong::reject;
 use crate::gateway::refusals::{Logged, TURN};
@@ -6,6 +7,7 @@ use crate::gateway::sent::Sent;
 use crate::sockets::{pause, watch};
 use crate::stamps::Utc;
 use crate::threads::print_counts;
+use gw_er7::ReadFault;
 use gw_gateway::{AtLog, Bells, answer_sender};
 use gw_journal::{Naming, Storage};
 use gw_stream::{Counts, Handed, Reads, RunFault, Writes};
@@ -23,13 +25,15 @@ pub(crate) struct Sender {
     pub(crate) peer: SocketAddr,
 }
 
-/// The forwarders' bells.
+/// The forwarders' bells, and what is known of the messages that came.
 #[derive(Drop)]
 struct Ringing<'a, 'f, J: Naming, S: Storage + Drop, R: Wait> {
     hub: &'a Hub<'f, J, S, R>,
+    came: &'a Came,
 }
 
-impl<J: Naming, S: Storage + Drop, R: Wait + Clock> Bells for Ringing<'_, '_, J, S, R> {
+impl<J: Naming, S: Storage + Drop, R: Wait + AllocGlobal + Clock> Bells
+    for Ringing<'_, '_, J, S, R> {
     fn ring(&self, receiver: u32) {
         if let Some(line) = self.hub.lines.find(self.hub.rt, receiver) {
             line.ring(self.hub.rt);
@@ -43,6 +47,11 @@ impl<J: Naming, S: Storage + Drop, R: Wait + Clock> Bells for Ringing<'_, '_, J,
     fn accepted(&self, count: u64) {
         self.hub.accepted.fetch_add(count, Ordering::SeqCst);
     }
+
+    fn unread(&self, number: u64, fault: ReadFault, content: &[u8]) {
+        self.came.add(number, fault);
+        self.hub.folder.keep_unread(self.hub.rt, content);
+    }
 }
 
 /// Answers the messages of a connection, and gives the counts.
@@ -51,11 +60,12 @@ fn answer<J: Naming, S: Storage + Drop, R: Wait + AllocGlobal + Clock + Eprint>(
     sender: &Sender,
 ) -> Result<Counts, RunFault> {
     let alloc = hub.rt.alloc();
+    let came = Came::new(alloc, false);
     let mut sent = Sent::new(alloc, hub, sender);
     let clock = Utc::new(hub.rt, hub.start);
-    let bells = Ringing { hub };
+    let bells = Ringing { hub, came: &came };
     let mut judge = AtLog::new(alloc, hub.rt, &hub.journal, clock, &bells);
-    let mut writer = Handed::new(Writes::new(Logged::new(alloc, hub, sender)));
+    let mut writer = Handed::new(Writes::new(Logged::new(alloc, hub, sender, &came)));
     let mut reader = Reads::new(&mut sent);
     let answered = answer_sender(alloc, &mut judge, &mut reader, &mut writer);
     sent.give_turn();
