@@ -35,6 +35,13 @@ def logged(answer):
     return b" ".join([header[9], control, acknowledged[1], error[3].split(b"^")[0], *place]).decode()
 
 
+def refused_that_day():
+    """What the log of refusals says of the day: of each answer but AA. The sixth message has a byte that no message has."""
+    lines = [logged(it) for it in ANSWERS if b"MSA|AA" not in it]
+    lines[2] += " message refused 3 at byte %d" % re.search(rb"[\x00-\x08\x0b\x0c\x0e-\x1f]", MESSAGES[5][1:-2]).start()
+    return lines
+
+
 class Receiver:
     """A receiver that takes one connection after another, and keeps what came. It acknowledges each block by the next of its codes, the last of them for ever.
     `None` closes the connection instead, and an empty one says nothing. Where it `closes`, it ends its connection behind each acknowledgment."""

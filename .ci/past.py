@@ -10,7 +10,7 @@ import threading
 import time
 
 from disks import BESIDE, NOW, begun, fill, lay, report, small_disk
-from gateway import REPORT, RESERVE, Receiver, control, logged
+from gateway import REPORT, RESERVE, Receiver, control, refused_that_day
 from loads import message, plan_for, routed
 from log_files import TAKEN, accepted, again, chain, margin, named, passed, planned, refused, state
 from loopback import ANSWERS, LEFT, MESSAGES, Differs, same
@@ -336,7 +336,7 @@ def refusals_turn(gateway):
     with open(log, "wb") as file:
         file.truncate(LIMIT - 1)
     gateway.start()
-    refused = [logged(it) for it in ANSWERS if b"MSA|AA" not in it]
+    refused = refused_that_day()
     without = lambda it: re.sub(r"^(?:\d{14}|NOW) session (\d) G\d+ ", r"session \1 ", it)
     for session in 1, 2:
         gateway.ask(MESSAGES)

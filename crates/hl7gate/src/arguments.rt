@@ -50,6 +50,11 @@ const ON_GATEWAY: &[(&str, &str, &str)] = &[
         "",
         "Goes on with the plan in force in FOLDER where PLAN is another",
     ),
+    (
+        "keep-unreadable",
+        "",
+        "Keeps messages that can't be read in FOLDER/unreadable.mllp: they may be a patient's",
+    ),
 ];
 
 /// Two options of which a call has one at most.

@@ -3,22 +3,31 @@ use gw_ack::{AckFault, read_ack};
 use gw_gate::Entry;
 use gw_mllp::{Decoder, FrameFault};
 use gw_run::Note;
+use memchr::memmem::find;
 use std::alloc::Global;
+use std::cell::Cell;
 use std::io;
-use std::io::Read;
-use std::net::TcpStream;
+use std::io::{ErrorKind, Read};
 
 /// Why a message wasn't acknowledged.
 #[derive(Clone, Copy, PartialEq, Eq)]
 pub(crate) enum Unacknowledged {
     /// The line ended, or can't be read or written.
     Ended,
+    /// Nothing came in time.
+    Silent,
+    /// The message can't be written.
+    Unwritten,
+    /// Bytes came, and no block ended in them, until the line ended or the time was over.
+    Loose,
     /// A block is too long.
     TooLong,
     /// The block can't be read as a message.
     Unreadable,
-    /// The block has no MSA, or its code is none of the three.
+    /// The block has no MSA, or its code is none of table 0008 (HL7 v2.5.1).
     NoCode,
+    /// The block's code is CA, CE or CR, of the enhanced mode.
+    Accept(&'static str),
     /// The block has another control id.
     OtherMessage,
     /// There was no memory to find out.
@@ -29,59 +38,80 @@ impl Unacknowledged {
     /// What came in place of an acknowledgment.
     pub(crate) fn words(self) -> &'static str {
         match self {
-            Unacknowledged::Ended => "the line ended",
+            Unacknowledged::Ended => "its connection was closed",
+            Unacknowledged::Silent => "nothing came for 60 seconds",
+            Unacknowledged::Unwritten => "it took no more of it, or its connection was closed",
+            Unacknowledged::Loose => "what came ends no block",
             Unacknowledged::TooLong => "its block is too long",
             Unacknowledged::Unreadable => "its block is no message",
             Unacknowledged::NoCode => "its block has no MSA with AA, AE or AR",
+            Unacknowledged::Accept(words) => words,
             Unacknowledged::OtherMessage => "its block has another control id",
             Unacknowledged::Unknown => "out of memory while its block was read",
         }
     }
 }
 
-/// A receiver's line that is read, with the blocks of what was read that came last.
+/// What was read of a receiver's line: the blocks that weren't taken yet, and how it ended.
 #[derive(Drop)]
-pub(crate) struct Heard<'s> {
-    stream: &'s TcpStream,
+pub(crate) struct Ears {
     decoder: Decoder,
-    taken: usize,
-    has_ended: bool,
+    taken: u64,
+    end: Option<Unacknowledged>,
+    // whether bytes came behind the last block that was taken
+    is_loose: bool,
     is_lost: bool,
 }
 
-impl<'s> Heard<'s> {
-    pub(crate) fn new(alloc: Global, stream: &'s TcpStream) -> Self {
-        Heard {
-            stream,
+impl Ears {
+    pub(crate) fn new(alloc: Global) -> Self {
+        Ears {
             decoder: Decoder::new(alloc),
             taken: 0,
-            has_ended: false,
+            end: None,
+            is_loose: false,
             is_lost: false,
         }
+    }
+
+    /// Takes the next block that came.
+    pub(crate) fn next_block(&mut self) -> Option<Vec<u8>> {
+        let block = self.decoder.next_block()?;
+        self.taken = self.taken.saturating_add(1);
+        self.is_loose = false;
+        Some(block)
     }
 
     /// Drops the blocks that came, this many at most: the courier reads on where it has taken them all.
     fn drop_blocks(&mut self, most: usize) {
         for _ in 0..most {
-            if self.decoder.next_block().is_none() {
+            if self.next_block().is_none() {
                 return;
             }
-            self.taken = self.taken.saturating_add(1);
         }
     }
 
     /// Takes a piece that was read.
     fn take(&mut self, piece: &[u8]) {
-        self.has_ended = piece.is_empty();
+        self.end = if piece.is_empty() {
+            Some(Unacknowledged::Ended)
+        } else {
+            self.is_loose = true;
+            None
+        };
         if let Err(FrameFault::Memory) = self.decoder.feed(piece) {
             self.is_lost = true;
         }
     }
 
     /// Why the last of the messages that were sent wasn't acknowledged.
-    pub(crate) fn why(mut self, alloc: Global, sent: usize) -> Unacknowledged {
-        if self.has_ended {
-            return Unacknowledged::Ended;
+    pub(crate) fn why(mut self, alloc: Global, sent: u64) -> Unacknowledged {
+        if let Some(end) = self.end {
+            return if self.is_loose {
+                Unacknowledged::Loose
+            } else {
+                end
+            };
         }
         if self.is_lost {
             return Unacknowledged::Unknown;
@@ -97,16 +127,57 @@ impl<'s> Heard<'s> {
     }
 }
 
-impl Read for Heard<'_> {
-    fn read(&mut self, buf: &mut [u8]) -> io::Result<usize> {
-        // (each read has as much room, and brings fewer blocks than bytes)
-        self.drop_blocks(buf.len());
-        self.has_ended = true;
-        let mut stream = self.stream;
-        let count = stream.read(buf)?;
-        self.take(&buf[..count]);
-        Ok(count)
+/// A receiver's line that is read. What was read is kept in `ears`.
+#[derive(Drop)]
+pub(crate) struct Heard<'e, L: Read> {
+    alloc: Global,
+    line: L,
+    ears: &'e Cell<Ears>,
+}
+
+impl<'e, L: Read> Heard<'e, L> {
+    /// Nothing was read yet.
+    pub(crate) fn new(alloc: Global, line: L, ears: &'e Cell<Ears>) -> Self {
+        ears.set(Ears::new(alloc));
+        Heard { alloc, line, ears }
     }
+}
+
+impl<L: Read> Read for Heard<'_, L> {
+    fn read(&mut self, buf: &mut [u8]) -> io::Result<usize> {
+        let mut ears = self.ears.replace(Ears::new(self.alloc));
+        // (each read has as much room, and brings fewer blocks than bytes)
+        ears.drop_blocks(buf.len());
+        let read = self.line.read(buf);
+        match &read {
+            Ok(count) => ears.take(&buf[..(*count).min(buf.len())]),
+            Err(error) if error.kind() == ErrorKind::TimedOut => {
+                ears.end = Some(Unacknowledged::Silent);
+            }
+            Err(_) => ears.end = Some(Unacknowledged::Ended),
+        }
+        self.ears.set(ears);
+        read
+    }
+}
+
+/// What is said of the code of an MSA-1 that is none of the original mode, by its bytes.
+fn code_of(content: &[u8]) -> Unacknowledged {
+    let at = match find(content, b"\rMSA") {
+        Some(at) => at.saturating_add(5),
+        None => return Unacknowledged::NoCode,
+    };
+    let code = content.get(at..at.saturating_add(2)).unwrap_or(&[]);
+    if code == b"CA".as_slice() {
+        return Unacknowledged::Accept("its block has CA in place of AA, AE or AR");
+    }
+    if code == b"CE".as_slice() {
+        return Unacknowledged::Accept("its block has CE in place of AA, AE or AR");
+    }
+    if code == b"CR".as_slice() {
+        return Unacknowledged::Accept("its block has CR in place of AA, AE or AR");
+    }
+    Unacknowledged::NoCode
 }
 
 /// Why a block doesn't acknowledge its message. The message's control id isn't needed: where the block has a code, its control id is another.
@@ -114,14 +185,14 @@ fn judged(alloc: Global, content: &[u8]) -> Unacknowledged {
     match read_ack(alloc, content, b"") {
         Err(AckFault::Memory) => Unacknowledged::Unknown,
         Err(AckFault::Unreadable) => Unacknowledged::Unreadable,
-        Err(AckFault::NotAnAck) => Unacknowledged::NoCode,
+        Err(AckFault::NotAnAck) => code_of(content),
         Ok(_) | Err(AckFault::OtherMessage) => Unacknowledged::OtherMessage,
     }
 }
 
 /// How many messages were given out to be sent.
-pub(crate) fn sent_in(notes: &[Note]) -> usize {
-    let mut sent = 0usize;
+pub(crate) fn sent_in(notes: &[Note]) -> u64 {
+    let mut sent = 0u64;
     for note in notes {
         if let Note::Added(receipt) = note
             && matches!(receipt.entry, Entry::Out { .. })

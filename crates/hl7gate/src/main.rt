@@ -3,8 +3,10 @@
 //! `program::command` does it over any reader and two writers, but for `serve`, `gateway` and `tell`, which also take the network or threads; here are the process's own.
 #![tactic(auto)]
 
+mod answers;
 mod arguments;
 mod breaches;
+mod came;
 mod contents;
 mod doors;
 mod ended;
@@ -28,6 +30,7 @@ mod sample;
 mod serve;
 mod sockets;
 mod stamps;
+mod stand;
 mod streams;
 mod swaps;
 mod tell;

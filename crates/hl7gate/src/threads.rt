@@ -1,7 +1,7 @@
 //! A service: what its threads share, and what each of them does.
 
 use crate::doors::{Reporter, Who};
-use crate::heard::{Heard, Unacknowledged, sent_in};
+use crate::heard::{Ears, Heard, Unacknowledged, sent_in};
 use crate::outcome::Outcome;
 use crate::stamps::Utc;
 use crate::tickets::Tickets;
@@ -12,6 +12,7 @@ use gw_run::{Counted, Door, LockedGate, Pause, Phase, Receipts, courier, cut, wo
 use gw_session::session;
 use gw_stream::{Counts, Reads, RunFault, Sink, Writes};
 use std::alloc::{AllocError, Global};
+use std::cell::Cell;
 use std::io::Eprint;
 use std::net::{SocketAddr, TcpStream};
 use std::sync::ledger::{Book, Ledger, Share};
@@ -387,7 +388,8 @@ impl<L: Ledger, R: Wait + AllocGlobal + Clock + Eprint> Service<'_, L, R> {
         let Some(mut door) = self.door(Who::Receiver(name)) else {
             return Err((RunFault::Memory, Unacknowledged::Unknown));
         };
-        let mut heard = Heard::new(alloc, stream);
+        let ears = Cell::new(Ears::new(alloc));
+        let mut heard = Heard::new(alloc, stream, &ears);
         let mut writer = Writes::new(stream);
         let mut reader = Reads::new(&mut heard);
         let carried = courier(alloc, &mut door, receiver, &mut reader, &mut writer);
@@ -396,7 +398,7 @@ impl<L: Ledger, R: Wait + AllocGlobal + Clock + Eprint> Service<'_, L, R> {
         match carried {
             Ok(counts) => Ok(counts),
             Err(fault) if writer.failed() => Err((fault, Unacknowledged::Ended)),
-            Err(fault) => Err((fault, heard.why(alloc, sent))),
+            Err(fault) => Err((fault, ears.replace(Ears::new(alloc)).why(alloc, sent))),
         }
     }
 }

@@ -72,7 +72,7 @@ fn look_at_disk<J: Naming, S: Storage + Drop, R: Wait + Clock + Eprint>(hub: &Hu
 
 /// Has the log of refusals go on in a new file where it is long.
 fn look_at_log<J: Naming, S: Storage + Drop, R: Runtime + Wait>(hub: &Hub<'_, J, S, R>) {
-    if let Ok(true) = hub.folder.turn_log(hub.rt) {
+    if let Ok(true) = hub.folder.turn_logs(hub.rt) {
         let _ = eprintln!(hub.rt;
             "{}/refusals.log had 64 MB: it is refusals.log.1 now",
             hub.folder.path
@@ -223,7 +223,7 @@ fn keep<
     ledger: Ledger<J, Stored<Checkpoints, D>, ByPlans>,
 ) -> Result<u8, Ended<'a>> {
     let path = words.get_str("FOLDER").unwrap_or("");
-    let folder = Folder::open(rt, path)?;
+    let folder = Folder::open(rt, path, words.get_flag("keep-unreadable"))?;
     let hub = begin(rt, ledger, plan, start, &folder)?;
     print_waiting(&hub);
     begin_lines(&hub)?;

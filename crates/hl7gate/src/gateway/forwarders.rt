@@ -4,6 +4,7 @@ ghost use Rattle.std.specs.Prelude.{◌≡◌, false};
 use crate::gateway::hub::Hub;
 use crate::gateway::lines::Line;
 use crate::gateway::links::{Answers, Records, connect};
+use crate::heard::{Ears, Heard, Unacknowledged};
 use crate::runtime::Runtime;
 use crate::sockets::is_ended;
 use crate::stamps::Utc;
@@ -28,11 +29,13 @@ const LONGEST: u64 = 60;
 /// A line, as its forwarder sees it, and its connection. `is_over`: no more is sent over that.
 #[derive(Drop)]
 struct Here<'a, 'f, J: Naming, S: Storage + Drop, R: Wait> {
+    alloc: Global,
     hub: &'a Hub<'f, J, S, R>,
     line: &'a Line,
     stream: Cell<Option<Arc<TcpStream>>>,
     is_over: Cell<bool>,
     waited: Cell<bool>,
+    ears: Cell<Ears>,
 }
 
 impl<J: Naming, S: Storage + Drop, R: Wait + Clock + Eprint> Forwarded for Here<'_, '_, J, S, R> {
@@ -150,7 +153,9 @@ impl<
         let (rt, sent) = (hub.rt, self.sent);
         for _ in rt.forever() {
             let before = outbox.count();
-            let mut reader = Reads::new(Answers { hub, stream });
+            let answers = Answers { hub, stream };
+            let mut heard = Heard::new(rt.alloc(), answers, &self.here.ears);
+            let mut reader = Reads::new(&mut heard);
             let mut writer = Writes::new(Records {
                 hub,
                 line,
@@ -160,7 +165,8 @@ impl<
                 is_new: true,
             });
             let ended = outbox.send(rt.alloc(), &mut reader, &mut writer);
-            if outbox.count() > before {
+            let taken = outbox.count().saturating_sub(before);
+            if taken > 0 {
                 self.pause = 0;
             }
             match ended {
@@ -171,10 +177,13 @@ impl<
                 }
                 Err(ForwardFault::Record { .. }) => match outbox.put_aside() {
                     Ok(()) => {}
-                    Err(OutboxFault::Memory) => return self.ended_by(ForwardFault::Memory),
-                    Err(_) => return self.ended_by(ForwardFault::Disk),
+                    Err(OutboxFault::Memory) => return self.ended_by(ForwardFault::Memory, None),
+                    Err(_) => return self.ended_by(ForwardFault::Disk, None),
                 },
-                Err(fault) => return self.ended_by(fault),
+                Err(fault) => {
+                    let heard = if writer.failed() { None } else { Some(taken) };
+                    return self.ended_by(fault, heard);
+                }
             }
         }
         unreachable!()
@@ -194,8 +203,20 @@ impl<
         true
     }
 
+    // Why the message behind as many isn't acknowledged. None: it can't be written.
+    fn why(&self, taken: Option<u64>) -> Unacknowledged {
+        let (here, alloc) = (self.here, self.here.alloc);
+        match taken {
+            Some(taken) => here
+                .ears
+                .replace(Ears::new(alloc))
+                .why(alloc, taken.saturating_add(1)),
+            None => Unacknowledged::Unwritten,
+        }
+    }
+
     // A connection, or what waits for its receiver, has failed. False: nothing more is sent.
-    fn ended_by(&mut self, fault: ForwardFault) -> bool {
+    fn ended_by(&mut self, fault: ForwardFault, taken: Option<u64>) -> bool {
         let Here { hub, line, .. } = self.here;
         let name = line.name.escape_ascii();
         if hub.has_ended() {
@@ -208,8 +229,9 @@ impl<
             }
             ForwardFault::Memory => eprintln!(hub.rt; "receiver {name}: out of memory; it goes on"),
             _ if self.sent.get() => {
+                let words = self.why(taken).words();
                 eprintln!(hub.rt;
-                    "receiver {name} did not acknowledge a message; it is connected anew"
+                    "receiver {name} did not acknowledge a message: {words}; it is connected anew"
                 )
             }
             _ => eprintln!(hub.rt; "receiver {name} ended its connection; it is connected anew"),
@@ -328,11 +350,13 @@ fn forward_by<
     // (what is left from before the start may have been sent then)
     let sent = Cell::new(hub.taken.load(Ordering::SeqCst) == 0 && hub.left_for(line.number) > 0);
     let here = Here {
+        alloc,
         hub,
         line,
         stream: Cell::new(None),
         is_over: Cell::new(false),
         waited: Cell::new(true),
+        ears: Cell::new(Ears::new(alloc)),
     };
     let times = Utc::new(hub.rt, hub.start);
     let mut outbox = Pending::new(

@@ -1,16 +1,17 @@
 //! What is noted of each answer that isn't AA: a line of the log, which has the message's control id, and what the page shows, which hasn't.
+use crate::answers::{is_accepted, line_of, refusal_of, word_of};
+use crate::came::Came;
 use crate::gateway::hub::Hub;
-use crate::stamps::time_in;
-use gw_er7::{Message, Place, Segment, read};
+use gw_er7::{Message, read};
 use gw_journal::{Naming, Storage};
 use gw_mllp::Decoder;
 use gw_page::Refusal;
-use memchr::memmem::find;
 use std::alloc::{AllocError, Global};
 use std::io;
 use std::io::{Eprint, Error, ErrorKind, Write};
 use std::net::TcpStream;
 use std::sync::Wait;
+use std::sync::atomic::Ordering;
 
 /// How many milliseconds one write waits for its sender.
 pub(crate) const TURN: u64 = 200;
@@ -20,6 +21,9 @@ const TURNS: u64 = 290;
 
 const LAST_TURNS: u64 = 5;
 
+/// The condition of an answer to a message that isn't judged (HL7 table 0357).
+const INTERNAL: &[u8] = b"207";
+
 /// A sender's connection as its answers are written, with the log.
 #[derive(Drop)]
 pub(crate) struct Logged<'a, 'f, J: Naming, S: Storage + Drop, R: Wait> {
@@ -27,6 +31,7 @@ pub(crate) struct Logged<'a, 'f, J: Naming, S: Storage + Drop, R: Wait> {
     hub: &'a Hub<'f, J, S, R>,
     stream: &'a TcpStream,
     session: u64,
+    came: &'a Came,
     answers: Decoder,
     // how many times an answer was waited for since the gateway ends
     late: u64,
@@ -38,12 +43,14 @@ impl<'a, 'f, J: Naming, S: Storage + Drop, R: Wait> Logged<'a, 'f, J, S, R> {
         hub: &'a Hub<'f, J, S, R>,
         stream: &'a TcpStream,
         session: u64,
+        came: &'a Came,
     ) -> Self {
         Logged {
             alloc,
             hub,
             stream,
             session,
+            came,
             answers: Decoder::new(alloc),
             late: 0,
         }
@@ -58,6 +65,7 @@ impl<'a, 'f, J: Naming, S: Storage + Drop, R: Wait> Logged<'a, 'f, J, S, R> {
             let Some(content) = self.answers.next_block() else {
                 return;
             };
+            self.came.answer();
             if !is_accepted(&content)
                 && let Ok(answer) = read(self.alloc, &content)
             {
@@ -66,11 +74,26 @@ impl<'a, 'f, J: Naming, S: Storage + Drop, R: Wait> Logged<'a, 'f, J, S, R> {
         }
     }
 
+    // Why the message that was answered last is answered AR with 207, where that is known. If it can't be read, it is kept.
+    fn reason(&self, refusal: &Refusal) -> Result<String, AllocError> {
+        if refusal.code.as_slice() != INTERNAL {
+            return Ok(String::new(self.alloc));
+        }
+        if let Some(unread) = self.came.unread() {
+            let (hub, alloc) = (self.hub, self.alloc);
+            hub.folder.keep_unread(alloc, hub.rt, &unread.bytes);
+            return unread.words(alloc);
+        }
+        let is_short = self.hub.is_short.load(Ordering::SeqCst);
+        String::from_str(self.alloc, self.came.words(is_short))
+    }
+
     // Notes an answer that isn't AA.
     fn note(&self, answer: &Message) -> Result<(), AllocError> {
         let refusal = refusal_of(self.alloc, self.session, answer)?;
         let control = word_of(self.alloc, answer, b"MSA", 2)?;
-        let line = line_of(self.alloc, &refusal, &control)?;
+        let reason = self.reason(&refusal)?;
+        let line = line_of(self.alloc, &refusal, &control, &reason)?;
         self.hub.watch.note(self.hub.rt, refusal);
         self.hub.folder.add(self.hub.rt, line.as_bytes());
         Ok(())
@@ -111,91 +134,4 @@ impl<J: Naming, S: Storage + Drop, R: Wait + Eprint> Write for Logged<'_, '_, J,
     fn flush(&mut self) -> io::Result<()> {
         Ok(())
     }
-}
-
-/// Whether an answer says AA, by its bytes: MSA-1 stands behind the name and a separator.
-fn is_accepted(content: &[u8]) -> bool {
-    let Some(at) = find(content, b"\rMSA") else {
-        return false;
-    };
-    let code = at.saturating_add(5);
-    content.get(code..code.saturating_add(2)) == Some(b"AA".as_slice())
-}
-
-/// The first segment of this name.
-fn segment_of<'a>(answer: &'a Message, name: &[u8; 3]) -> Option<Segment<'a>> {
-    for i in 0..answer.segment_count() {
-        let segment = answer.segment(i);
-        if segment.name() == *name {
-            return Some(segment);
-        }
-    }
-    None
-}
-
-/// The text of the first component of a field. It is empty where the answer has none.
-fn word_of(
-    alloc: Global,
-    answer: &Message,
-    name: &[u8; 3],
-    field: usize,
-) -> Result<Vec<u8>, AllocError> {
-    let place = Place {
-        field,
-        rep: 1,
-        comp: 1,
-        sub: 1,
-    };
-    match segment_of(answer, name) {
-        Some(segment) => Vec::from_slice(alloc, segment.text(place)),
-        None => Ok(Vec::new(alloc)),
-    }
-}
-
-/// The place in the message, as ERR has it.
-fn place_of(alloc: Global, answer: &Message) -> Result<Vec<u8>, AllocError> {
-    let mut place = Vec::new(alloc);
-    let Some(error) = segment_of(answer, b"ERR") else {
-        return Ok(place);
-    };
-    for comp in 1..=error.comps(2, 1) {
-        if comp > 1 {
-            place.push(b'^')?;
-        }
-        place.extend_from_slice(error.text(Place {
-            field: 2,
-            rep: 1,
-            comp,
-            sub: 1,
-        }))?;
-    }
-    Ok(place)
-}
-
-/// What the page shows of an answer: of the message its place alone, no value and no control id.
-fn refusal_of(alloc: Global, session: u64, answer: &Message) -> Result<Refusal, AllocError> {
-    Ok(Refusal {
-        time: time_in(&word_of(alloc, answer, b"MSH", 7)?),
-        session,
-        number: word_of(alloc, answer, b"MSH", 10)?,
-        answer: word_of(alloc, answer, b"MSA", 1)?,
-        code: word_of(alloc, answer, b"ERR", 3)?,
-        place: place_of(alloc, answer)?,
-    })
-}
-
-/// The line of an answer: its time, the session, its number, the message's control id, MSA-1, and the code and place of ERR.
-fn line_of(alloc: Global, refusal: &Refusal, control: &[u8]) -> Result<String, AllocError> {
-    let session = refusal.session;
-    let control = if control.is_empty() { b"-" } else { control };
-    let gap = if refusal.place.is_empty() { "" } else { " " };
-    format!(in alloc;
-        "{} session {session} {} {} {} {}{gap}{}\n",
-        refusal.time.escape_ascii(),
-        refusal.number.escape_ascii(),
-        control.escape_ascii(),
-        refusal.answer.escape_ascii(),
-        refusal.code.escape_ascii(),
-        refusal.place.escape_ascii()
-    )
 }

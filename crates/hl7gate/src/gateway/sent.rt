@@ -1,24 +1,16 @@
 //! What a sender sends, as a session reads it.
+use crate::came::Came;
 use crate::gateway::hub::Hub;
 use crate::sockets::pause;
+use crate::stand::Stand;
 use gw_journal::{Naming, Storage};
-use memchr::{memchr, memrchr};
-use std::alloc::{AllocError, Global};
+use std::alloc::Global;
 use std::io;
 use std::io::{Error, ErrorKind, Read};
-use std::mem::swap;
 use std::net::TcpStream;
 use std::sync::Wait;
 use std::sync::atomic::Ordering;
 use std::time::{Clock, Duration, Instant};
-
-/// The bytes that begin and end a message (MLLP Release 1).
-const VT: u8 = 0x0b;
-
-const FS: u8 = 0x1c;
-
-/// How many bytes of a message's beginning are kept.
-const BEGINNING: usize = 16_384;
 
 /// How long a read waits before the gateway is looked at, in milliseconds.
 const LOOK: u64 = 250;
@@ -34,61 +26,12 @@ const FREE: usize = 65_536;
 /// How many seconds a long message may take to come, where others wait for their turn.
 const PATIENCE: u64 = 60;
 
-/// Where a stream stands: within a message or not, and the beginning of the message. Of the one that the last piece ended, the beginning is kept too:
-/// if it is too long, its session ends before the next piece is read.
-#[derive(Drop)]
-struct Stand {
-    is_within: bool,
-    // of the message, so far
-    size: usize,
-    beginning: Vec<u8>,
-    ended: Vec<u8>,
-}
-
-impl Stand {
-    // A piece came.
-    fn take(&mut self, piece: &[u8]) -> Result<(), AllocError> {
-        self.ended.clear();
-        let end = memrchr(FS, piece);
-        let behind = match end {
-            Some(end) => end.saturating_add(1),
-            None => 0,
-        };
-        if end.is_some() {
-            if self.is_within {
-                swap(&mut self.ended, &mut self.beginning);
-            }
-            self.is_within = false;
-            self.size = 0;
-            self.beginning.clear();
-        }
-        let rest = piece.get(behind..).unwrap_or(&[]);
-        if let Some(begin) = memchr(VT, rest)
-            && !self.is_within
-        {
-            self.is_within = true;
-            return self.keep(rest.get(begin..).unwrap_or(&[]));
-        }
-        if self.is_within {
-            return self.keep(rest);
-        }
-        Ok(())
-    }
-
-    fn keep(&mut self, bytes: &[u8]) -> Result<(), AllocError> {
-        self.size = self.size.saturating_add(bytes.len());
-        let room = BEGINNING.saturating_sub(self.beginning.len());
-        let first = bytes.get(..room.min(bytes.len())).unwrap_or(&[]);
-        self.beginning.extend_from_slice(first)?;
-        Ok(())
-    }
-}
-
 /// A sender's connection. It ends between two messages where the gateway ends. A message that is long is read on once it has a turn.
 #[derive(Drop)]
 pub(crate) struct Sent<'a, 'f, J: Naming, S: Storage + Drop, R: Wait> {
     hub: &'a Hub<'f, J, S, R>,
     stream: &'a TcpStream,
+    came: &'a Came,
     stand: Stand,
     silent: u64,
     // since when it has a turn
@@ -96,17 +39,18 @@ pub(crate) struct Sent<'a, 'f, J: Naming, S: Storage + Drop, R: Wait> {
 }
 
 impl<'a, 'f, J: Naming, S: Storage + Drop, R: Wait + Clock> Sent<'a, 'f, J, S, R> {
-    pub(crate) fn new(alloc: Global, hub: &'a Hub<'f, J, S, R>, stream: &'a TcpStream) -> Self {
+    pub(crate) fn new(
+        alloc: Global,
+        hub: &'a Hub<'f, J, S, R>,
+        stream: &'a TcpStream,
+        came: &'a Came,
+    ) -> Self {
         let _ = stream.set_read_timeout(Some(Duration::from_millis(LOOK)));
         Sent {
             hub,
             stream,
-            stand: Stand {
-                is_within: false,
-                size: 0,
-                beginning: Vec::new(alloc),
-                ended: Vec::new(alloc),
-            },
+            came,
+            stand: Stand::new(alloc),
             silent: 0,
             turn: None,
         }
@@ -114,11 +58,7 @@ impl<'a, 'f, J: Naming, S: Storage + Drop, R: Wait + Clock> Sent<'a, 'f, J, S, R
 
     /// The beginning of the message that the session was about to get.
     pub(crate) fn beginning(&self) -> &[u8] {
-        if self.stand.ended.is_empty() {
-            &self.stand.beginning
-        } else {
-            &self.stand.ended
-        }
+        self.stand.beginning()
     }
 
     /// Has no turn any more.
@@ -198,6 +138,7 @@ impl<J: Naming, S: Storage + Drop, R: Wait + Clock> Read for Sent<'_, '_, J, S, 
                 Ok(count) => {
                     self.silent = 0;
                     let count = count.min(buf.len());
+                    self.came.add(&buf[..count]);
                     self.stand.take(&buf[..count])?;
                     return Ok(count);
                 }
