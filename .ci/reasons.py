@@ -1,6 +1,7 @@
-"""Trials of `.ci/gateways`: why a receiver didn't acknowledge a message, and why a sender's message wasn't read."""
+"""Trials of `.ci/gateways`: why a receiver refused a message or didn't acknowledge it, and why a sender's message wasn't read."""
 import re
 import socket
+import subprocess
 
 from gateway import REPORT, Receiver, control
 from loopback import ANSWERS, LEFT, MESSAGES, same
@@ -99,3 +100,39 @@ def unread(gateway):
     same("what is kept", b"".join(blocks), kept.read_bytes())
     same("its mode", 0o600, kept.stat().st_mode & 0o777)
     gateway.stop()
+
+
+def reasons(gateway):
+    """What a receiver says of a message that it refuses is in the log, and shown by `status --refused`: its texts only with --values."""
+    first = HEAD + b"MSA|AE|ID|no such ward\rERR||PID^1^3|101^Required field missing^HL70357|E\rERR||OBR^2|103|E\r\x1c\r"
+    second = HEAD + b"MSA|AR|ID\rERR|||207|E||||busy\r\x1c\r"
+    third = HEAD + b"MSA|AE|ID|" + b"w" * 3_000 + b"\r\x1c\r"
+    strange = HEAD + b"MSA|AE|ID\rERR||PID^1^5|Quackenbush|E\r\x1c\r"
+    wards = Speaker(first, second, second, second, third, strange)
+    gateway.play(WARDS=wards, ARCHIVE=Receiver())
+    gateway.start()
+    gateway.answered(gateway.ask(MESSAGES), ANSWERS)
+    sent = LEFT["WARDS"]
+    wards.has([sent[0], sent[1], sent[1], sent[1], *sent[2:]], gateway.until)
+    same("how many were refused", 4, gateway.once(4, lambda: {it["name"]: it["refused"] for it in gateway.status()["receivers"]}["WARDS"]))
+    line = r"receiver WARDS answered .*: the message is at place (\d+) of the log in folder"
+    places = [gateway.wait(line, number)[1] for number in (1, 2, 3, 4)]
+
+    def shown(*words):
+        status, text = gateway.tell("status", "--refused", "WARDS", *words)
+        return status, [re.sub(r" \d{4}-\d\d-\d\dT\d\d:\d\d:\d\d\.\d{6}Z ", " TIME ", it) for it in text.splitlines()]
+
+    codes = ["AE 101 PID^1^3, 103 OBR^2", "AR 207", "AE", "AE"]
+    stated = ["lie refused: 4"] + [f"{place} TIME {it}" for place, it in zip(places, codes)]
+    same("what lies refused", (0, stated), gateway.once((0, stated), shown))
+    texts = ["ERR: 101 PID^1^3, 103 OBR^2; MSA-3: no such ward", "ERR: 207", "MSA-3: " + "w" * 1_017, "ERR: Quackenbush PID^1^5"]
+    same("with its texts", (0, stated[:1] + [f'{it} "{text}"' for it, text in zip(stated[1:], texts)]), shown("--values"))
+    same("of the archive", (0, "lie refused: 0\n"), gateway.tell("status", "--refused", "ARCHIVE"))
+    same("of nobody", (1, "refused: no receiver of the plan has this name\n"), gateway.tell("status", "--refused", "NOBODY"))
+    gateway.stop()
+    listed = subprocess.run([gateway.program, "log", "folder", "--values"], cwd=gateway.room, capture_output=True, text=True, timeout=20).stdout
+    same("the texts in the log", texts, re.findall(r'WARDS \(\d\) refused .*, code \d: (.*)', listed))
+    gateway.start()
+    same("resend", (0, "resent 4\n"), gateway.tell("resend", "WARDS"))
+    same("what lies refused then", (0, ["lie refused: 0"]), gateway.once((0, ["lie refused: 0"]), shown))
+    gateway.kill()

@@ -20,12 +20,20 @@ struct Begun {
     has_plan: bool,
 }
 
-/// A message that was accepted at `place`, and is kept for a receiver: it refused it, or it is due to it once more, at `at`.
+/// A message that was accepted at `place`, and is kept for a receiver: it refused it, or it is due to it once more, at `at`. The record at `by` says so.
 #[derive(Clone, Copy)]
 struct Kept {
     receiver: u32,
     at: u64,
     place: u64,
+    by: u64,
+}
+
+/// A message that was accepted at `place`, and lies refused: the record at `by` says how it was.
+#[derive(Clone, Copy)]
+pub struct Refused {
+    pub place: u64,
+    pub by: u64,
 }
 
 /// What all records up to a place say of files, and of what lies refused. It grows with the files, and with what lies refused.
@@ -72,6 +80,7 @@ impl<V: Calls + Drop> Keeper<V> {
                     receiver: *receiver,
                     at,
                     place: *place,
+                    by: at,
                 })?;
             }
             Event::Passed {
@@ -88,6 +97,7 @@ impl<V: Calls + Drop> Keeper<V> {
                         receiver: *receiver,
                         at: place,
                         place,
+                        by: at,
                     })?;
                 }
             }
@@ -136,12 +146,15 @@ impl<V: Calls + Drop> Keeper<V> {
         Ok(false)
     }
 
-    /// Where the messages stand that lie refused by a receiver, in the order in which it refused them.
-    pub fn refused(&self, receiver: u32) -> Result<Vec<u64>, AllocError> {
+    /// The messages that lie refused by a receiver, in the order in which it refused them.
+    pub fn refused(&self, receiver: u32) -> Result<Vec<Refused>, AllocError> {
         let mut places = Vec::new(self.alloc);
         for one in &self.refused {
             if one.receiver == receiver {
-                places.push(one.place)?;
+                places.push(Refused {
+                    place: one.place,
+                    by: one.by,
+                })?;
             }
         }
         Ok(places)

@@ -14,15 +14,17 @@ mod pages;
 mod past;
 mod pending;
 mod plans;
+mod reason;
 mod sending;
 mod sight;
 mod under;
 mod walk;
 
 pub use fault::PageFault;
-pub use keeping::Keeper;
+pub use keeping::{Keeper, Refused};
 pub use pages::{Page, Pages, Tail};
 pub use past::Past;
 pub use pending::{Line, Pending};
 pub use plans::Plans;
+pub use reason::{codes_of, reason_of};
 pub use sending::forward_due;

@@ -1,16 +1,17 @@
 //! What waits for a receiver, as its forwarder takes it.
-ghost use Rattle.std.specs.Prelude.{◌≡◌, ◌+◌, ◌∷◌, [], IfOk, IfSome, IsNone, IsSome, IsTrue, IsFalse, OnOk, OnErr, Some, None};
+ghost use Rattle.std.specs.Prelude.{◌≡◌, ◌≤◌, ◌+◌, ◌∷◌, [], length, IfOk, IfSome, IsNone, IsSome, IsTrue, IsFalse, OnOk, OnErr, Some, None};
 ghost use Rattle.gw_ack.specs.declared.receipt.Ack.TheVariants.{AR};
 ghost use Rattle.gw_due.specs.Views as view;
 ghost use Rattle.gw_ledger.specs.Backlogs.{GoesOn, WasFirst};
 ghost use Rattle.gw_delivery.specs.Waiting as spec;
-ghost use Rattle.gw_delivery.specs.Waiting.{Closes, Gives, IsPassed, Keeps, Passes, PassesNext, PutsAside, Stays};
+ghost use Rattle.gw_delivery.specs.Waiting.{Closes, Gives, IsPassed, Keeps, Passes, PassesAs, PassesNext, PutsAside, Stays};
 
 use crate::fault::PageFault;
 use crate::finder::Finder;
 use crate::next::Next;
 use crate::pages::Tail;
 use crate::plans::Plans;
+use crate::reason::cut;
 use gw_ack::Ack;
 use gw_due::How;
 use gw_forward::{Outbox, OutboxFault};
@@ -41,6 +42,9 @@ pub trait Line {
 
     /// As many are left. `is_next`: another one is the first.
     fn stands(&self, left: u64, is_next: bool);
+
+    /// Why it refused a message, by the acknowledgment that came last: empty, or as `reason_of` gives it. 1,024 bytes of it are kept.
+    fn reason(&self) -> Vec<u8>;
 
     /// It took a message.
     fn taken(&self);
@@ -126,20 +130,14 @@ fn passed<J: Naming, S: Storage + Drop, R: Wait>(
     }
 }
 
-// How a receiver passes what it acknowledged so.
-fn how(ack: Ack) -> How<'static>
-    ensures { view.how result ≡ spec.how ack }
+// How a receiver passes what it acknowledged so, for this reason.
+fn how(ack: Ack, reason: &[u8]) -> How<'_>
+    ensures { view.how result ≡ spec.how ack reason.now }
 {
     match ack {
         Ack::AA => How::Taken,
-        Ack::AE => How::Refused {
-            code: 1,
-            reason: b"",
-        },
-        Ack::AR => How::Refused {
-            code: 2,
-            reason: b"",
-        },
+        Ack::AE => How::Refused { code: 1, reason },
+        Ack::AR => How::Refused { code: 2, reason },
     }
 }
 
@@ -426,10 +424,23 @@ impl<'a, J: Naming, S: Storage + Drop, V: Calls + Drop, R: Wait, L: Line, T: Tim
         Ok(place)
     }
 
+    // The receiver passes what is next as it acknowledged it, for this reason. Its place.
+    fn pass_as(&mut self, ack: Ack, reason: &[u8]) -> Result<u64, OutboxFault>
+        requires { length reason.now ≤ 1024 }
+        ensures passes { OnOk result (PassesAs J.before (record { receiver = self.old.receiver; name = self.old.name.now; backlog = self.old.backlog; next = self.old.next })
+            (record { receiver = self.new.receiver; name = self.new.name.now; backlog = self.new.backlog; next = self.new.next }) ack) }
+        ensures keeps { OnErr result (Keeps (record { receiver = self.old.receiver; name = self.old.name.now; backlog = self.old.backlog; next = self.old.next })
+            (record { receiver = self.new.receiver; name = self.new.name.now; backlog = self.new.backlog; next = self.new.next })) }
+        ensures counted { OnOk result (self.new.count ≡ self.old.count + 1) }
+        ensures uncounted { OnErr result (self.new.count ≡ self.old.count) }
+    {
+        self.pass(how(ack, reason))
+    }
+
     // The receiver passes as refused what can't be made. Its place, why it can't, and what is left then.
     fn refused(&self) -> Result<(u64, PageFault, Backlog<J>), OutboxFault>
         ensures { IfOk result (λ x. Passes J.before (record { receiver = self.now.receiver; name = self.now.name.now; backlog = self.now.backlog; next = self.now.next })
-            (record { receiver = self.now.receiver; name = self.now.name.now; backlog = Some x.2; next = None }) x.0 (spec.how AR)) }
+            (record { receiver = self.now.receiver; name = self.now.name.now; backlog = Some x.2; next = None }) x.0 (spec.how AR [])) }
     {
         let Some(aside) = &self.finder.aside else {
             return Err(OutboxFault::Record);
@@ -439,7 +450,7 @@ impl<'a, J: Naming, S: Storage + Drop, V: Calls + Drop, R: Wait, L: Line, T: Tim
         };
         let (time, place, fault) = (self.times.time(), aside.0.place(), aside.1);
         let (rt, journal) = (self.finder.rt, self.finder.journal);
-        let (_receipt, left) = passed(rt, journal, time, backlog, &aside.0, how(Ack::AR))?;
+        let (_receipt, left) = passed(rt, journal, time, backlog, &aside.0, how(Ack::AR, &[]))?;
         Ok((place, fault, left))
     }
 
@@ -469,7 +480,7 @@ impl<'a, J: Naming, S: Storage + Drop, V: Calls + Drop, R: Wait, L: Line, T: Tim
         if self.next.is_none() {
             return self.pass_unmade();
         }
-        let place = self.pass(how(Ack::AR))?;
+        let place = self.pass(how(Ack::AR, &[]))?;
         self.line.unsendable(place, None);
         Ok(())
     }
@@ -521,7 +532,8 @@ impl<J: Naming, S: Storage + Drop, V: Calls + Drop, R: Wait, L: Line, T: Times> 
                 return Ok(false);
             }
         }
-        let place = self.pass(how(ack))?;
+        let reason = self.line.reason();
+        let place = self.pass_as(ack, cut(&reason))?;
         match ack {
             Ack::AA => self.line.taken(),
             _ => self.line.refused(place, ack),

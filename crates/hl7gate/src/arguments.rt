@@ -221,7 +221,19 @@ const FORMS: &[Form] = &[
             ("WORD", "The word"),
         ],
         optional: &[("ARGUMENT", "A plan's path, or a receiver's name")],
-        options: &[("json", "", "Prints the status as JSON")],
+        options: &[
+            ("json", "", "Prints the status as JSON"),
+            (
+                "refused",
+                "NAME",
+                "Of status: prints what lies refused by this receiver",
+            ),
+            (
+                "values",
+                "",
+                "Of --refused: prints the receiver's texts too: they may be a patient's",
+            ),
+        ],
     },
     Form {
         name: "log",

@@ -24,6 +24,7 @@ mod plans;
 mod program;
 mod progress;
 mod refusals;
+mod refused;
 mod report;
 mod runtime;
 mod sample;

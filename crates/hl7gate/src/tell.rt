@@ -16,6 +16,14 @@ fn line_of(alloc: Global, words: &ArgMatches<'_>) -> Result<String, AllocError> 
     if words.get_flag("json") {
         return format!(in alloc; "{word} --json\n");
     }
+    if let Some(name) = words.get_str("refused") {
+        let values = if words.get_flag("values") {
+            "-values"
+        } else {
+            ""
+        };
+        return format!(in alloc; "{word} --refused{values} {name}\n");
+    }
     match words.get_str("ARGUMENT") {
         Some(argument) => format!(in alloc; "{word} {argument}\n"),
         None => format!(in alloc; "{word}\n"),

@@ -3,7 +3,7 @@ use crate::ended::Ended;
 use crate::gateway::hub::Hub;
 use crate::gateway::page::state;
 use crate::gateway::plans::take_file;
-use crate::gateway::resend::Ask;
+use crate::gateway::resend::{Ask, asked};
 use crate::runtime::Runtime;
 use crate::sockets::{listen_briefly, pause};
 use gw_journal::{Naming, Storage};
@@ -27,7 +27,7 @@ const PATIENCE: u64 = 5;
 
 /// Which words there are.
 const WORDS: &str =
-    "status [--json], swap PATH, install PATH, hold NAME, go NAME, resend NAME, stop";
+    "status [--json] [--refused NAME], swap PATH, install PATH, hold NAME, go NAME, resend NAME, stop";
 
 /// The path of a folder's socket.
 pub(crate) fn control_path(alloc: Global, folder: &str) -> Result<String, AllocError> {
@@ -73,7 +73,7 @@ fn tell_line<J: Naming, S: Storage + Drop, R: Runtime + Wait>(
             line.hold(hub.rt, false);
             format!(in alloc; "goes: {name} is sent what waits\n")
         }
-        // (where there is such a receiver, `resend` is answered by its own thread)
+        // (where there is such a receiver, `resend` is answered by its own thread, and so is `status --refused`)
         _ => format!(in alloc; "refused: no receiver of the plan has this name\n"),
     }
 }
@@ -106,6 +106,7 @@ fn answer<J: Naming, S: Storage + Drop, R: Runtime + Wait>(
     match (word, rest) {
         ("status", "") => state(hub, false),
         ("status", "--json") => state(hub, true),
+        ("status", _) if asked(line).is_some() => Ok(tell_line(hub, word, rest)?.into_bytes()),
         _ => Ok(answer_word(hub, word, rest)?.into_bytes()),
     }
 }
@@ -120,7 +121,7 @@ fn read_line<R: AllocGlobal>(rt: &R, stream: &UnixStream) -> io::Result<String> 
     }
 }
 
-/// Answers one connection, or has it wait for the thread that answers `resend`.
+/// Answers one connection, or has it wait for the thread that reads all files of the log.
 fn attend<J: Naming, S: Storage + Drop, R: Runtime + Wait>(
     hub: &Hub<'_, J, S, R>,
     stream: UnixStream,
@@ -129,10 +130,10 @@ fn attend<J: Naming, S: Storage + Drop, R: Runtime + Wait>(
     stream.set_write_timeout(Some(Duration::from_secs(PATIENCE)))?;
     let line = read_line(hub.rt, &stream)?;
     let line = line.trim_end();
-    if let Some(("resend", name)) = line.split_once(' ')
+    if let Some((what, name)) = asked(line)
         && let Some(line) = hub.lines.named(hub.rt, name.as_bytes())
     {
-        hub.asks.put(hub.rt, Ask { line, stream })?;
+        hub.asks.put(hub.rt, Ask { what, line, stream })?;
         return Ok(());
     }
     let text = answer(hub, line)?;

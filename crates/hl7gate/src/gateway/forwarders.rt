@@ -9,7 +9,7 @@ use crate::runtime::Runtime;
 use crate::sockets::is_ended;
 use crate::stamps::Utc;
 use gw_ack::Ack;
-use gw_delivery::{Line as Forwarded, PageFault, Pending, forward_due};
+use gw_delivery::{Line as Forwarded, PageFault, Pending, forward_due, reason_of};
 use gw_folder::FolderView;
 use gw_forward::{Ended, ForwardFault, Outbox, OutboxFault};
 use gw_journal::{Naming, Storage};
@@ -36,6 +36,8 @@ struct Here<'a, 'f, J: Naming, S: Storage + Drop, R: Wait> {
     is_over: Cell<bool>,
     waited: Cell<bool>,
     ears: Cell<Ears>,
+    // the block that refused the last message
+    answer: Cell<Option<Vec<u8>>>,
 }
 
 impl<J: Naming, S: Storage + Drop, R: Wait + Clock + Eprint> Forwarded for Here<'_, '_, J, S, R> {
@@ -61,7 +63,20 @@ impl<J: Naming, S: Storage + Drop, R: Wait + Clock + Eprint> Forwarded for Here<
     }
 
     fn count(&self, ack: Ack) {
+        let mut ears = self.ears.replace(Ears::new(self.alloc));
+        let answer = ears.next_block();
+        self.ears.set(ears);
+        self.answer.set(if ack == Ack::AA { None } else { answer });
         self.line.count(self.hub.rt, ack);
+    }
+
+    fn reason(&self) -> Vec<u8> {
+        if let Some(answer) = self.answer.replace(None)
+            && let Ok(reason) = reason_of(self.alloc, &answer)
+        {
+            return reason;
+        }
+        Vec::new(self.alloc)
     }
 
     // (a receiver that the plan lacks is sent what is left, and then no more)
@@ -357,6 +372,7 @@ fn forward_by<
         is_over: Cell::new(false),
         waited: Cell::new(true),
         ears: Cell::new(Ears::new(alloc)),
+        answer: Cell::new(None),
     };
     let times = Utc::new(hub.rt, hub.start);
     let mut outbox = Pending::new(

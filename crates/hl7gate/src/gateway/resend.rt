@@ -1,11 +1,12 @@
-//! The word `resend`: what a receiver refused is due to it once more.
+//! The words `resend`, by which what a receiver refused is due to it once more, and `status --refused`, which shows that.
 //!
 //! All files of the log are read for that, so a thread of its own does it.
 use crate::gateway::hub::Hub;
 use crate::gateway::lines::Line;
+use crate::refused::line_of;
 use crate::runtime::Runtime;
 use crate::stamps::microseconds;
-use gw_delivery::{Keeper, PageFault, Pages};
+use gw_delivery::{Keeper, PageFault, Pages, Refused};
 use gw_folder::FolderView;
 use gw_journal::{Naming, Storage};
 use gw_ledger::Message;
@@ -21,9 +22,31 @@ use std::{io, thread};
 /// After how many milliseconds the thread looks whether somebody asks.
 const LOOK: u64 = 50;
 
+/// What is asked: that all that a receiver refused is sent to it again; or that it is shown, with its texts or without.
+#[derive(Clone, Copy)]
+pub(crate) enum Asked {
+    Resend,
+    Codes,
+    Values,
+}
+
+/// What a line asks, and of whom, where all files of the log are read for that.
+pub(crate) fn asked(line: &str) -> Option<(Asked, &str)> {
+    let (word, rest) = line.split_once(' ')?;
+    if word == "resend" {
+        return Some((Asked::Resend, rest));
+    }
+    match rest.split_once(' ')? {
+        ("--refused", name) if word == "status" => Some((Asked::Codes, name)),
+        ("--refused-values", name) if word == "status" => Some((Asked::Values, name)),
+        _ => None,
+    }
+}
+
 /// Somebody asks for what this receiver refused, and waits for the answer.
 #[derive(Drop)]
 pub(crate) struct Ask {
+    pub(crate) what: Asked,
     pub(crate) line: Arc<Line>,
     pub(crate) stream: UnixStream,
 }
@@ -63,11 +86,11 @@ fn view_of<'f, J: Naming, S: Storage + Drop, R: Runtime + Wait>(
     }
 }
 
-/// Where the messages stand that lie refused by a receiver. Nobody asks any more once the gateway ends.
+/// The messages that lie refused by a receiver, by their places. Nobody asks any more once the gateway ends.
 fn places<J: Naming, S: Storage + Drop, R: Runtime + Wait>(
     hub: &Hub<'_, J, S, R>,
     receiver: u32,
-) -> Result<Vec<u64>, PageFault> {
+) -> Result<Vec<Refused>, PageFault> {
     let view = view_of(hub)?;
     let mut keeper = Keeper::new(hub.rt.alloc(), view);
     let next = hub.journal.lock(hub.rt).ledger.state().next();
@@ -89,17 +112,37 @@ fn refused<J: Naming, S: Storage + Drop, R: Runtime + Wait>(
     let alloc = hub.rt.alloc();
     let mut pages = Pages::new(alloc, view_of(hub)?);
     let mut messages = Vec::new(alloc);
-    for place in &places(hub, receiver)? {
+    for one in &places(hub, receiver)? {
         if hub.has_ended() {
             break;
         }
-        let bytes = pages.find(hub.tail(), *place)?;
-        let found = hub.journal.lock(hub.rt).ledger.message(*place, &bytes)?;
+        let bytes = pages.find(hub.tail(), one.place)?;
+        let found = hub.journal.lock(hub.rt).ledger.message(one.place, &bytes)?;
         if let Some(message) = found {
             messages.push(message)?;
         }
     }
     Ok(messages)
+}
+
+/// How many messages lie refused by a receiver, and a line for each.
+fn shown<J: Naming, S: Storage + Drop, R: Runtime + Wait>(
+    hub: &Hub<'_, J, S, R>,
+    receiver: u32,
+    has_values: bool,
+) -> Result<String, PageFault> {
+    let alloc = hub.rt.alloc();
+    let places = places(hub, receiver)?;
+    let mut pages = Pages::new(alloc, view_of(hub)?);
+    let mut text = format!(in alloc; "lie refused: {}\n", places.len())?;
+    for one in &places {
+        if hub.has_ended() {
+            break;
+        }
+        let record = pages.find(hub.tail(), one.by)?;
+        text.push_str(&line_of(alloc, one.place, &record, has_values)?)?;
+    }
+    Ok(text)
 }
 
 /// Has messages be due to a receiver once more, and gives how many they are once that is on the disk.
@@ -128,18 +171,25 @@ fn put_again<J: Naming, S: Storage + Drop, R: Runtime + Wait>(
     format!(in alloc; "resent {}\n", messages.len())
 }
 
-/// Has all that a receiver refused be due to it once more, in the order in which it refused it.
-fn resend<J: Naming, S: Storage + Drop, R: Runtime + Wait>(
+/// Shows what a receiver refused, or has all of it be due to it once more, in the order in which it refused it.
+fn answer<J: Naming, S: Storage + Drop, R: Runtime + Wait>(
     hub: &Hub<'_, J, S, R>,
+    what: Asked,
     line: &Line,
 ) -> Result<String, AllocError> {
     let alloc = hub.rt.alloc();
-    let refused = refused(hub, line.number);
-    if hub.has_ended() {
-        return format!(in alloc; "refused: the gateway ends\n");
-    }
-    match refused {
-        Ok(messages) => put_again(hub, line, &messages),
+    let answered = match what {
+        Asked::Resend => match refused(hub, line.number) {
+            Ok(messages) if !hub.has_ended() => return put_again(hub, line, &messages),
+            Ok(_) => Ok(String::new(alloc)),
+            Err(fault) => Err(fault),
+        },
+        Asked::Codes => shown(hub, line.number, false),
+        Asked::Values => shown(hub, line.number, true),
+    };
+    match answered {
+        _ if hub.has_ended() => format!(in alloc; "refused: the gateway ends\n"),
+        Ok(text) => Ok(text),
         Err(PageFault::Memory) => Err(AllocError),
         Err(fault) => format!(in alloc; "refused: {fault}\n"),
     }
@@ -150,8 +200,8 @@ fn attend<J: Naming, S: Storage + Drop, R: Runtime + Wait>(
     hub: &Hub<'_, J, S, R>,
     ask: Ask,
 ) -> io::Result<()> {
-    let Ask { line, stream } = ask;
-    let text = resend(hub, &line)?;
+    let Ask { what, line, stream } = ask;
+    let text = answer(hub, what, &line)?;
     let mut writer = stream;
     writer.write_all(text.as_bytes())
 }
