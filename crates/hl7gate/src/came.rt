@@ -42,6 +42,8 @@ struct Pile {
     blocks: Option<Decoder>,
     taken: u64,
     answered: u64,
+    // whether memory lacked for a piece: nothing is known from there on
+    is_lost: bool,
 }
 
 impl Pile {
@@ -51,6 +53,7 @@ impl Pile {
             blocks: None,
             taken: 0,
             answered: 0,
+            is_lost: false,
         }
     }
 
@@ -73,6 +76,9 @@ impl Pile {
 
     // The block that was answered last.
     fn last(&mut self, alloc: Global) -> Option<Vec<u8>> {
+        if self.is_lost {
+            return None;
+        }
         let mut blocks = match self.blocks.take() {
             Some(blocks) => blocks,
             None => {
@@ -121,12 +127,14 @@ impl Came {
         }
     }
 
-    /// A piece was read. Where memory lacks, nothing is known of its messages.
+    /// A piece was read. Where memory lacks for it, nothing is known of this session's messages any more.
     pub(crate) fn add(&self, piece: &[u8]) {
         let mut pile = self.pile.replace(Pile::new(self.alloc));
-        if pile.add(self.alloc, piece).is_ok() {
-            self.pile.set(pile);
+        if !pile.is_lost && pile.add(self.alloc, piece).is_err() {
+            pile = Pile::new(self.alloc);
+            pile.is_lost = true;
         }
+        self.pile.set(pile);
     }
 
     /// The next message was answered.
