@@ -10,9 +10,9 @@ import threading
 import time
 
 from disks import BESIDE, NOW, begun, fill, lay, report, small_disk
-from gateway import REPORT, RESERVE, Receiver, control, noted
+from gateway import REPORT, RESERVE, Receiver, control, refused_that_day
 from loads import message, plan_for, routed
-from log_files import TAKEN, accepted, again, chain, margin, named, passed, planned, refused, state
+from log_files import TAKEN, accepted, again, chain, margin, name, named, passed, planned, refused, state
 from loopback import ANSWERS, LEFT, MESSAGES, Differs, same
 from preload import library_in
 
@@ -346,9 +346,9 @@ def clock_back(gateway):
 
 
 def folder_gone(gateway):
-    """The folder is removed under the gateway, or moved: nothing is answered AA any more, and it ends."""
+    """The folder is removed under the gateway, or moved, or a file of its log is removed: nothing is answered AA any more, and it ends."""
     gateway.play(WARDS=Receiver(), ARCHIVE=Receiver())
-    for at, go in enumerate((shutil.rmtree, lambda it: os.rename(it, str(it) + "2"))):
+    for go in shutil.rmtree, lambda it: os.rename(it, str(it) + "2"), lambda it: os.unlink(it / name(1)):
         gateway.folder.mkdir(exist_ok=True)
         gateway.start()
         line = gateway.client()
@@ -370,7 +370,7 @@ def refusals_turn(gateway):
     with open(log, "wb") as file:
         file.truncate(LIMIT - 1)
     gateway.start()
-    refused = [noted(*it) for it in zip(MESSAGES, ANSWERS) if b"MSA|AA" not in it[1]]
+    refused = refused_that_day()
     without = lambda it: re.sub(r" from (?:PEER|127\.0\.0\.1:\d+)", " from PEER", re.sub(r"^(?:\d{14}|NOW) session (\d) G\d+ ", r"session \1 ", it))
     for session in 1, 2:
         gateway.ask(MESSAGES)

@@ -1,12 +1,12 @@
-//! A worker, a courier and a cut over one gate.
-use crate::gates::{OUT_OF_ORDER, begun, event, made, plan};
+//! A worker and a courier over one gate.
+use crate::gates::begun;
 use crate::locked::replies;
 use crate::streams::{Device, Ran};
 use crate::worked::{ARRIVED, admitted, archive};
-use gw_crew::{Door, Note, Pause, Phase, Solo, courier, cut, worker};
-use gw_gate::{Event, Reply};
+use gw_crew::{Door, Pause, Solo, courier, worker};
+use gw_gate::Event;
 use gw_plan::Plan;
-use gw_stream::{Counts, Reads, RunFault, Writes};
+use gw_stream::{Counts, Reads, Writes};
 use std::alloc::Global;
 use std::sync::Arc;
 use std::test::Fail;
@@ -59,31 +59,6 @@ pub(crate) fn arrived(alloc: Global, count: u64) -> Result<Solo, Fail> {
         }
     }
     Ok(door)
-}
-
-/// A door to a gate that refuses each result by an allocation failure.
-#[derive(Drop)]
-struct WithoutPut {
-    door: Solo,
-}
-
-impl Door for WithoutPut {
-    ghost noted = { λ d. d.door.notes };
-
-    fn call(&mut self, event: Event) -> Result<Reply, Event> {
-        match event {
-            Event::Put { n, translated } => Err(Event::Put { n, translated }),
-            event => self.door.call(event),
-        }
-    }
-
-    fn wait(&mut self, phase: Phase) -> bool {
-        self.door.wait(phase)
-    }
-
-    fn notes(&self) -> &[Note] {
-        self.door.notes()
-    }
 }
 
 /// A pause that ends its worker after this many jobs.
@@ -146,76 +121,5 @@ fn a_message_is_worked_on_and_carried(rt: HostRuntime) -> Result<(), Fail> {
     let (result, held) = carry(alloc, &mut door, answers(alloc, b""), 1_000);
     assert!(rt; result == Ok(NOTHING) && held == Some(0));
     assert_eq!(rt; (door.notes().len(), door.gate().journal().len()), (8, 4));
-    Ok(())
-}
-
-#[test]
-fn a_cut_waits_for_each_job(rt: HostRuntime) -> Result<(), Fail> {
-    let alloc = rt.alloc();
-    let plan = plan(alloc, "ONE")?;
-    let mut door = door_of(alloc, &plan)?;
-    for (step, reply) in OUT_OF_ORDER.steps {
-        assert!(rt; replies(&mut door, event(alloc, &plan, &plan, *step)?, *reply));
-    }
-    assert!(rt; cut(&mut door)?.is_none());
-    for n in 0..3 {
-        assert!(rt; replies(&mut door, Event::Take, ("Job", n)));
-    }
-    match cut(&mut door)? {
-        Some(chapter) => {
-            assert_eq!(rt; (chapter.entries().len(), door.gate().end()), (12, 12));
-            Ok(())
-        }
-        None => Err("it is pending".into()),
-    }
-}
-
-#[test]
-fn a_pause_ends_a_worker(rt: HostRuntime) -> Result<(), Fail> {
-    let alloc = rt.alloc();
-    let mut door = arrived(alloc, 3)?;
-    assert_eq!(rt; work(alloc, &mut door, 1)?.put, 1);
-    assert_eq!(rt; work(alloc, &mut door, 9)?.put, 1);
-    match door.notes().last() {
-        Some(Note::Idle) => Ok(()),
-        _ => Err("another end".into()),
-    }
-}
-
-/// A worker that can't put its result tells its job, which another one does when it is issued again.
-#[test]
-fn a_worker_tells_its_job(rt: HostRuntime) -> Result<(), Fail> {
-    let alloc = rt.alloc();
-    let mut refuses = WithoutPut {
-        door: arrived(alloc, 1)?,
-    };
-    let mut pause = After {
-        left: 9,
-        stopped: false,
-    };
-    match worker(alloc, &mut refuses, &mut pause) {
-        Ok(_) => return Err("it put its result".into()),
-        Err(ended) => assert_eq!(rt; ended, (RunFault::Memory, Some((0, 0)))),
-    }
-    assert_eq!(rt; work(alloc, &mut refuses.door, 9)?, NOTHING);
-    let event = Event::Reissue { n: 0, receiver: 0 };
-    assert!(rt; replies(&mut refuses.door, event, ("Issued", 0)));
-    assert_eq!(rt; work(alloc, &mut refuses.door, 9)?.put, 1);
-    Ok(())
-}
-
-/// A worker ends with a job in hand. Another one puts its result once the pair is issued again, and no one puts it twice.
-#[test]
-fn a_worker_follows_another(rt: HostRuntime) -> Result<(), Fail> {
-    let alloc = rt.alloc();
-    let plan = Arc::new(alloc, archive(alloc)?)?;
-    let mut door = arrived(alloc, 1)?;
-    assert_eq!(rt; work(alloc, &mut door, 0)?.put, 0);
-    let event = Event::Reissue { n: 0, receiver: 0 };
-    assert!(rt; replies(&mut door, event, ("Issued", 0)));
-    assert_eq!(rt; work(alloc, &mut door, 9)?.put, 1);
-    let translated = made(alloc, &admitted(alloc, &plan, 0, ARRIVED)?)?;
-    let event = Event::Put { n: 0, translated };
-    assert!(rt; replies(&mut door, event, ("Repeat", 0)));
     Ok(())
 }

@@ -1,7 +1,6 @@
 //! What a gate replies, and what its receivers are sent.
 use crate::worked;
-use gw_er7::write;
-use gw_gate::{Event, Gate, MAX_ENTRIES, Reply, replay};
+use gw_gate::{Event, Gate, Reply};
 use gw_plan::{Conforming, Plan, Translated, translate_for};
 use std::alloc::Global;
 use std::sync::Arc;
@@ -228,15 +227,6 @@ fn a_gate_replies_in_turn(rt: HostRuntime) -> Result<(), Fail> {
     Ok(())
 }
 
-// What is sent, where the reply sends something.
-fn sent(alloc: Global, reply: Option<&Reply>) -> Result<Vec<u8>, Fail> {
-    let Some(Reply::Out { translated, .. }) = reply else {
-        return Err("nothing is sent".into());
-    };
-    let written = write(alloc, translated.message())?;
-    Ok(written)
-}
-
 // The events by which a gate is opened and a history goes on.
 pub(crate) fn opened(alloc: Global, history: &History) -> Result<Vec<Event>, Fail> {
     let first = plan(alloc, "ONE")?;
@@ -247,45 +237,4 @@ pub(crate) fn opened(alloc: Global, history: &History) -> Result<Vec<Event>, Fai
         events.push(event(alloc, &first, &later, *step)?)?;
     }
     Ok(events)
-}
-
-#[test]
-fn a_message_stays_under_its_plan(rt: HostRuntime) -> Result<(), Fail> {
-    let alloc = rt.alloc();
-    let Ok((gate, replies)) = replay(alloc, opened(alloc, &SWAPPED)?) else {
-        return Err("it is no replay".into());
-    };
-    assert_eq!(rt; (gate.journal().len(), replies.len()), (5, 8));
-    let text = sent(alloc, replies.last())?;
-    assert_eq!(rt; text.as_slice(), b"MSH|^~\\&|||ONE|||||7\r".as_slice());
-    Ok(())
-}
-
-#[test]
-fn numbers_go_on_in_another_gate(rt: HostRuntime) -> Result<(), Fail> {
-    let plan = plan(rt.alloc(), "ONE")?;
-    let mut gate = begun(rt.alloc(), &plan)?;
-    assert_eq!(rt; replied(&mut gate, Event::Refuse(207))?, ("Refused", 1));
-    assert_eq!(rt; replied(&mut gate, Event::Cut)?, ("Closed", 1));
-    let mut next = gate.begin_beside(rt.alloc())?;
-    assert_eq!(rt; replied(&mut next, Event::Refuse(207))?, ("Refused", 2));
-    Ok(())
-}
-
-#[test]
-fn a_full_journal_takes_no_entry(rt: HostRuntime) -> Result<(), Fail> {
-    let plan = plan(rt.alloc(), "ONE")?;
-    let mut gate = begun(rt.alloc(), &plan)?;
-    for _entry in 0..MAX_ENTRIES {
-        let _ = gate.step(Event::Refuse(207));
-    }
-    assert_eq!(rt; gate.journal().len(), 262_144);
-    assert_eq!(rt; replied(&mut gate, Event::Refuse(207))?, ("Full", 0));
-    assert_eq!(rt; replied(&mut gate, Event::Look)?, ("Current", 0));
-    assert_eq!(rt; replied(&mut gate, Event::Cut)?, ("Closed", 262_144));
-    assert_eq!(rt;
-        replied(&mut gate, Event::Refuse(207))?,
-        ("Refused", 262_145)
-    );
-    Ok(())
 }

@@ -1,9 +1,7 @@
-//! Two threads at one journal, over rows in memory; a job that begins the next file; a log as the storage.
+//! Two threads at one journal, over rows in memory.
 ghost use Rattle.std.specs.Prelude.{◌≡◌, []};
 
-use crate::logs::{Folder, no_files};
-use gw_journal::{Desk, Journal, JournalFault, Naming, Opened, Receipt, Storage, Stored};
-use gw_log::{LogFault, Recorded};
+use gw_journal::{Desk, Journal, JournalFault, Naming, Opened, Receipt, Storage};
 use std::alloc::Global;
 use std::marker::Brand;
 use std::process::Abort;
@@ -126,62 +124,4 @@ fn stored_by_two<J: Naming + Send + Sync, R: Threads + Wait + Abort + Sync>(
 #[test]
 fn each_thread_has_its_receipt(rt: HostRuntime) -> Result<(), Fail> {
     stored_by_two::<Brand, _>(&rt, rt.alloc(), Opened::new())
-}
-
-fn turned_once<J: Naming, R: Wait + Abort>(
-    rt: &R,
-    alloc: Global,
-    opened: Opened,
-) -> Result<(), Fail>
-    requires book { opened.seen.book ≡ J.book }
-    requires before { J.before ≡ [] }
-{
-    let desk = Desk::<J, Rows>::open(alloc, opened, no_rows(alloc), 0);
-    let journal = Journal::new(alloc, desk);
-    let ticket = journal.put(rt, Vec::from_slice(alloc, b"first")?)?;
-    let job = journal.lock(rt).take(alloc).ok_or("a job")?;
-    let checkpoint = Vec::from_slice(alloc, b"one")?;
-    let Ok(done) = job.turning(1, checkpoint).run() else {
-        return Err("it begins the next file".into());
-    };
-    journal.lock(rt).give_back(done);
-    // (what was put before the next file counts, with no sync more)
-    let receipt = journal.settle(rt, &ticket)?;
-    let rows = journal.into_books().close(&receipt).ok_or("closes")?;
-    assert!(rt; rows.rows.len() == 1 && rows.syncs == 1 && rows.files == 2 && rows.oldest == 2);
-    Ok(())
-}
-
-/// A job that begins the next file brings what it was given to the disk, and removes the file that is needed no more.
-#[test]
-fn a_job_begins_the_next_file(rt: HostRuntime) -> Result<(), Fail> {
-    turned_once::<Brand, _>(&rt, rt.alloc(), Opened::new())
-}
-
-// A log whose first file is gone.
-fn second_alone(alloc: Global) -> Result<Folder, LogFault> {
-    let folder = Folder::new(alloc, &no_files(alloc)?, 100)?;
-    let disk = Recorded::<Folder, Brand>::new(folder);
-    let mut log = match Stored::<Brand, _>::create(alloc, disk, 7, b"start") {
-        Ok(log) => log,
-        Err((fault, _)) => return Err(fault),
-    };
-    if log.begin_next(0, b"later").is_err() || log.retire() != Ok(true) {
-        return Err(LogFault::Device);
-    }
-    Ok(log.into_disk().into_calls())
-}
-
-/// A log that is opened gives the checkpoint of its last file, and the records behind it.
-#[test]
-fn a_start_reads_the_last_file(rt: HostRuntime) -> Result<(), Fail> {
-    let alloc = rt.alloc();
-    let disk = Recorded::<Folder, Brand>::new(second_alone(alloc)?);
-    let (_, last) = match Stored::<Brand, _>::open(alloc, disk, 7) {
-        Ok(found) => found,
-        Err((fault, _)) => return Err(fault.into()),
-    };
-    assert!(rt; last.checkpoint() == b"later".as_slice());
-    assert!(rt; last.records().is_empty());
-    Ok(())
 }

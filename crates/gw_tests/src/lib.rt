@@ -16,8 +16,6 @@ mod dues;
 #[cfg(test)]
 mod failures;
 #[cfg(test)]
-mod folders;
-#[cfg(test)]
 mod forwards;
 #[cfg(test)]
 mod gates;
@@ -40,15 +38,11 @@ mod profiles;
 #[cfg(test)]
 mod refusals;
 #[cfg(test)]
-mod served;
-#[cfg(test)]
 mod sessions;
 #[cfg(test)]
 mod streams;
 #[cfg(test)]
 mod subjects;
-#[cfg(test)]
-mod threads;
 #[cfg(test)]
 mod translations;
 #[cfg(test)]

@@ -1,7 +1,7 @@
 //! A gate that threads step behind its lock.
 ghost use Rattle.std.specs.Prelude.{◌≡◌};
 
-use crate::gates::{CUT, HISTORIES, History, Step, begun, event, plan, said};
+use crate::gates::{HISTORIES, History, Step, begun, event, plan, said};
 use crate::refusals::{holds, refuse};
 use gw_audit::{Report, join_all};
 use gw_gate::{Chapter, Event, Gate, Reply};
@@ -64,24 +64,14 @@ fn replies_to_all<L: Ledger, R: Wait>(
     Ok(chapters)
 }
 
-/// What is lost of what a pass leaves.
-#[derive(Clone, Copy, PartialEq, Eq)]
-pub(crate) enum Lost {
-    Nothing,
-    Receipts,
-    Chapters,
-    /// The growth of this number, of those of `join_all`.
-    Growth(u32),
-}
-
-// What is reported of a gate to which one pass replies as is said, where this is lost in the end.
+// What is reported of a gate to which one pass replies as is said. Of the growths of `join_all` this one is refused, if it isn't 0.
 pub(crate) fn through_one<L: Ledger, R: Wait + AllocGlobal>(
     rt: &R,
     gate: Gate,
     blank: Blank,
     plans: (&Arc<Plan>, &Arc<Plan>),
     history: &History,
-    lost: Lost,
+    growth: u32,
 ) -> Result<Result<Report, RunFault>, Fail>
     requires name { blank.name ≡ L.name }
     requires parts { blank.parts ≡ L.parts }
@@ -94,12 +84,7 @@ pub(crate) fn through_one<L: Ledger, R: Wait + AllocGlobal>(
     let mut chapters = replies_to_all(alloc, &mut pass, plans, history.steps)?;
     let mut passes = Vec::new(alloc);
     passes.push(pass.end())?;
-    match lost {
-        Lost::Nothing => {}
-        Lost::Receipts => passes.clear(),
-        Lost::Chapters => chapters.clear(),
-        Lost::Growth(growth) => refuse(alloc, growth),
-    }
+    refuse(alloc, growth);
     let mut counted = gate.into_counted();
     let joined = join_all(alloc, &mut counted, passes, chapters);
     refuse(alloc, 0);
@@ -130,28 +115,8 @@ fn one_pass_replies_as_its_gate(rt: HostRuntime) -> Result<(), Fail> {
     for history in &HISTORIES {
         let gate = begun(alloc, &first)?;
         let plans = (&first, &later);
-        let joined = through_one::<Brand, _>(
-            &rt,
-            gate,
-            Blank::new(1),
-            plans,
-            history,
-            Lost::Nothing,
-        )?;
+        let joined = through_one::<Brand, _>(&rt, gate, Blank::new(1), plans, history, 0)?;
         assert_eq!(rt; joined, Ok(report_of(history)));
-    }
-    Ok(())
-}
-
-#[test]
-fn what_is_lost_is_missed(rt: HostRuntime) -> Result<(), Fail> {
-    let alloc = rt.alloc();
-    let plan = plan(alloc, "ONE")?;
-    for lost in [Lost::Receipts, Lost::Chapters] {
-        let gate = begun(alloc, &plan)?;
-        let plans = (&plan, &plan);
-        let joined = through_one::<Brand, _>(&rt, gate, Blank::new(1), plans, &CUT, lost)?;
-        assert_eq!(rt; joined, Err(RunFault::Unsettled));
     }
     Ok(())
 }

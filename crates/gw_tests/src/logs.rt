@@ -1,5 +1,5 @@
 //! A log over a folder in memory, at which the power may fail after each call.
-use gw_log::{Calls, DiskFault, Log, LogFault, Reader, Recorded, Segment};
+use gw_log::{Calls, DiskFault, Log, LogFault, Recorded, Segment};
 use std::alloc::{AllocError, Global};
 use std::marker::Brand;
 use std::test::Fail;
@@ -233,44 +233,10 @@ pub(crate) fn two_files(alloc: Global) -> Result<Folder, LogFault> {
     Ok(log.into_disk().into_calls())
 }
 
-#[test]
-fn a_reader_goes_over_a_segment(rt: HostRuntime) -> Result<(), Fail> {
-    let alloc = rt.alloc();
-    let folder = two_files(alloc)?;
-    assert_eq!(rt; count(alloc, &folder.seen)?, 4); // the head, two records, and the end
-    let size = folder.seen.get(1).map_or(0, |file| file.len());
-    let disk = Recorded::<Folder, Brand>::new(folder);
-    let mut reader = Reader::at(alloc, disk, 1, 0, size.saturating_sub(1));
-    let mut lengths = Vec::new(alloc);
-    for _ in 0..6 {
-        if let Some(record) = reader.next()? {
-            lengths.push(record.len())?;
-        }
-    }
-    assert_eq!(rt; lengths.as_slice(), [45, 3, 3, 0].as_slice());
-    Ok(())
-}
-
-#[test]
-fn a_record_that_rots_is_damage(rt: HostRuntime) -> Result<(), Fail> {
-    let alloc = rt.alloc();
-    let mut folder = two_files(alloc)?;
-    if let Some(file) = folder.seen.get_mut(1)
-        && let Some(byte) = file.get_mut(120)
-    {
-        *byte ^= 1;
-    }
-    assert_eq!(rt;
-        count(alloc, &folder.seen).err(),
-        Some(LogFault::Damaged { segment: 1, at: 90 })
-    );
-    Ok(())
-}
-
-// How many records a log has in these files.
-fn open(alloc: Global, files: &[Vec<u8>], id: u64) -> Result<u64, LogFault> {
+// How many records the log in these files has.
+fn open(alloc: Global, files: &[Vec<u8>]) -> Result<u64, LogFault> {
     let folder = Folder::new(alloc, files, 100)?;
-    match Log::open(alloc, Recorded::<Folder, Brand>::new(folder), id) {
+    match Log::open(alloc, Recorded::<Folder, Brand>::new(folder), 7) {
         Err((fault, _)) => Err(fault),
         Ok((log, _)) => Ok(log.len()),
     }
@@ -278,56 +244,7 @@ fn open(alloc: Global, files: &[Vec<u8>], id: u64) -> Result<u64, LogFault> {
 
 // How many records the log in this folder has.
 pub(crate) fn count_in(alloc: Global, folder: &Folder) -> Result<u64, LogFault> {
-    open(alloc, &folder.seen, 7)
-}
-
-// The files of a log of four records, of which the last stands in the third file.
-fn three_files(alloc: Global) -> Result<Vec<Vec<u8>>, LogFault> {
-    let disk = Recorded::<Folder, Brand>::new(two_files(alloc)?);
-    let (mut log, records) = match Log::open(alloc, disk, 7) {
-        Ok(found) => found,
-        Err((fault, _)) => return Err(fault),
-    };
-    if records.len() != 2 {
-        return Err(LogFault::Empty);
-    }
-    log.begin_next(0, b"last")?;
-    log.put(&batch(alloc, &[b"four"])?)?;
-    let folder = log.into_disk().into_calls();
-    Ok(copied(alloc, &folder.seen)?)
-}
-
-// What the log is once this file has these bytes.
-fn changed(alloc: Global, number: usize, bytes: &[u8]) -> Result<u64, LogFault> {
-    let mut files = three_files(alloc)?;
-    if let Some(file) = files.get_mut(number) {
-        *file = Vec::from_slice(alloc, bytes)?;
-    }
-    open(alloc, &files, 7)
-}
-
-fn damaged(segment: u64, at: usize) -> Result<u64, LogFault> {
-    Err(LogFault::Damaged { segment, at })
-}
-
-#[test]
-fn a_file_out_of_the_chain_is_damage(rt: HostRuntime) -> Result<(), Fail> {
-    let alloc = rt.alloc();
-    let files = three_files(alloc)?;
-    assert_eq!(rt; open(alloc, &files, 7), Ok(4));
-    assert_eq!(rt; open(alloc, &files, 8), damaged(1, 0)); // of another log
-    assert_eq!(rt; open(alloc, &no_files(alloc)?, 7), Err(LogFault::Missing));
-    assert_eq!(rt; changed(alloc, 1, b""), damaged(1, 0)); // the first is gone
-    assert_eq!(rt; changed(alloc, 2, b""), damaged(2, 0)); // one between others
-    assert_eq!(rt; changed(alloc, 3, b""), damaged(3, 0)); // the last
-    if let [_, first, second, third, _] = files.as_slice() {
-        assert_eq!(rt; changed(alloc, 2, first), damaged(2, 0)); // a copy
-        assert_eq!(rt; changed(alloc, 3, second), damaged(4, 0)); // an ended one
-        assert_eq!(rt; changed(alloc, 2, third), damaged(2, 0));
-        let cut = &first[..first.len().min(90)];
-        assert_eq!(rt; changed(alloc, 1, cut), damaged(1, 90)); // cut at a record
-    }
-    Ok(())
+    open(alloc, &folder.seen)
 }
 
 // The folder after this number of calls of a log that goes on to a second file.
@@ -349,35 +266,8 @@ fn a_power_failure_leaves_a_log(rt: HostRuntime) -> Result<(), Fail> {
     for calls in 0..24 {
         let folder = turned(alloc, calls)?;
         for set in 0..4 {
-            assert_eq!(rt; open(alloc, &folder.image(set, 7)?, 7), Ok(3));
+            assert!(rt; open(alloc, &folder.image(set, 7)?) == Ok(3));
         }
-    }
-    Ok(())
-}
-
-// How many files go of a log of three files, where records from this place on are kept. Two records stand in the first, and one in the second.
-fn removed(alloc: Global, keep: u64) -> Result<usize, LogFault> {
-    let disk = Recorded::<Folder, Brand>::new(two_files(alloc)?);
-    let mut log = match Log::open(alloc, disk, 7) {
-        Ok((log, _)) => log,
-        Err((fault, _)) => return Err(fault),
-    };
-    log.begin_next(keep, b"last")?;
-    let mut count: usize = 0;
-    for _ in 0..4 {
-        if log.retire()? {
-            count = count.saturating_add(1);
-        }
-    }
-    Ok(count)
-}
-
-/// A file goes only where all its records stand below the place that is named, and the last one stays whatever is named.
-#[test]
-fn a_file_with_a_kept_record_stays(rt: HostRuntime) -> Result<(), Fail> {
-    let alloc = rt.alloc();
-    for (keep, gone) in [(0, 0), (1, 0), (2, 1), (3, 2), (9, 2)] {
-        assert_eq!(rt; removed(alloc, keep), Ok(gone));
     }
     Ok(())
 }

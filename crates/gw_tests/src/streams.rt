@@ -1,5 +1,4 @@
 //! Streams over devices that give and take little, are interrupted, and fail.
-use crate::refusals::refuse;
 use crate::worked::profile;
 use gw_ack::Stamp;
 use gw_stream::{Counts, Reads, RunFault, Writes, answer_stream};
@@ -106,10 +105,9 @@ impl Write for Device<'_> {
     }
 }
 
-/// What a run over these devices answers, of which the growth of this number is refused, if it isn't 0.
+/// What a run over these devices answers.
 fn answered(
     alloc: Global,
-    growth: u32,
     input: &mut Device<'_>,
     output: &mut Device<'_>,
 ) -> Result<Result<Counts, RunFault>, Fail> {
@@ -117,10 +115,7 @@ fn answered(
     let profile = profile(alloc, "profile P\nsegment MSH R 1..1\nsegment PID R 1..1\n")?;
     let mut reader = Reads::new(input);
     let mut writer = Writes::new(output);
-    refuse(alloc, growth);
-    let result = answer_stream(alloc, profile, stamp, &mut reader, &mut writer);
-    refuse(alloc, 0);
-    Ok(result)
+    Ok(answer_stream(alloc, profile, stamp, &mut reader, &mut writer))
 }
 
 /// What a run answers, how many bytes of the answers its output then holds, and how many calls that has left.
@@ -129,22 +124,12 @@ fn run(
     mut input: Device<'_>,
     mut output: Device<'_>,
 ) -> Result<(Result<Counts, RunFault>, Option<usize>, usize), Fail> {
-    let result = answered(alloc, 0, &mut input, &mut output)?;
+    let result = answered(alloc, &mut input, &mut output)?;
     Ok((result, output.holds(ANSWERS), output.calls))
-}
-
-/// What a run answers of which this growth is refused, and how many bytes of the answers its output then holds: `WHOLE` where none is.
-pub(crate) fn run_refused(alloc: Global, growth: u32) -> Result<Ran, Fail> {
-    let mut input = Device::new(alloc, STREAM, 1, 1000, 0);
-    let mut output = Device::new(alloc, b"", 65_536, 1000, 0).with_room(ANSWERS.len())?;
-    let result = answered(alloc, growth, &mut input, &mut output)?;
-    Ok((result, output.holds(ANSWERS)))
 }
 
 /// What a run answers, and how many bytes of what it writes its output has.
 pub(crate) type Ran = (Result<Counts, RunFault>, Option<usize>);
-
-pub(crate) const WHOLE: Ran = (Ok(COUNTS), Some(ANSWERS.len()));
 
 /// Each answer goes out in one write, where the writer takes it.
 #[test]

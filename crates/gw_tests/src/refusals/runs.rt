@@ -1,10 +1,10 @@
-//! Streams that are answered and served, sessions, workers, couriers and swaps.
+//! Sessions, workers, couriers and swaps.
 use super::{Call, holds, refuse, sweep};
 use crate::crews::{ACKED, After, CARRIED, SENT, arrived, door, work};
 use crate::gates::said;
+use crate::sessions;
 use crate::streams::{Device, Ran};
 use crate::worked::plan_text;
-use crate::{served, sessions, streams};
 use gw_crew::{Door, Solo, SwapFault, courier, swap, worker};
 use gw_gate::{Entry, Event};
 use gw_stream::{Reads, RunFault, Writes};
@@ -13,8 +13,6 @@ use std::test::Fail;
 
 #[derive(Clone, Copy)]
 enum Run {
-    AnswerStream,
-    ServeOnce,
     Session,
     Worker,
     Courier,
@@ -24,8 +22,6 @@ enum Run {
 impl Call for Run {
     fn is_refused(&self, alloc: Global, growth: u32) -> Result<bool, Fail> {
         match self {
-            Run::AnswerStream => answer_stream_refused(alloc, growth),
-            Run::ServeOnce => serve_once_refused(alloc, growth),
             Run::Session => session_refused(alloc, growth),
             Run::Worker => worker_refused(alloc, growth),
             Run::Courier => courier_refused(alloc, growth),
@@ -44,26 +40,6 @@ fn is_ended(ran: Ran, whole: Ran) -> Result<bool, Fail> {
         "another end",
     )?;
     Ok(true)
-}
-
-fn answer_stream_refused(alloc: Global, growth: u32) -> Result<bool, Fail> {
-    let refused = is_ended(streams::run_refused(alloc, growth)?, streams::WHOLE)?;
-    holds(
-        streams::run_refused(alloc, 0)? == streams::WHOLE,
-        "another end then",
-    )?;
-    Ok(refused)
-}
-
-fn serve_once_refused(alloc: Global, growth: u32) -> Result<bool, Fail> {
-    let (ran, sent) = served::run_refused(alloc, growth)?;
-    holds(sent.is_some(), "something else is sent")?;
-    let refused = is_ended(ran, served::WHOLE.0)?;
-    holds(
-        served::run_refused(alloc, 0)? == served::WHOLE,
-        "another end then",
-    )?;
-    Ok(refused)
 }
 
 // A message that is answered AA was accepted.
@@ -168,14 +144,6 @@ fn swap_refused(alloc: Global, growth: u32) -> Result<bool, Fail> {
     refuse(alloc, 0);
     holds(found == Ok(1), "another version")?;
     Ok(refused)
-}
-
-#[test]
-fn streams_refused(rt: HostRuntime) -> Result<(), Fail> {
-    for call in [Run::AnswerStream, Run::ServeOnce] {
-        sweep(rt.alloc(), &call)?;
-    }
-    Ok(())
 }
 
 #[test]
