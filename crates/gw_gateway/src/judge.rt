@@ -41,7 +41,6 @@ pub trait Times {
 }
 
 /// Judges the messages of a sender at the log. What it accepts is on the disk before its answer goes out.
-#[derive(Drop)]
 pub struct AtLog<'a, J: Naming, S: Storage + Drop, R: Wait, C: Drop, B> {
     rt: &'a R,
     journal: &'a Journal<J, Office<J, S>>,
@@ -54,6 +53,22 @@ pub struct AtLog<'a, J: Naming, S: Storage + Drop, R: Wait, C: Drop, B> {
     // how many were accepted that may not be on the disk yet
     fresh: u64,
     is_lost: bool,
+}
+
+// (by hand, so that no crate above proves again how its fields are dropped)
+impl<'a, J: Naming, S: Storage + Drop, R: Wait, C: Drop, B> Drop for AtLog<'a, J, S, R, C, B> {
+    fn drop(self) {
+        let AtLog {
+            rt: _,
+            journal: _,
+            clock: _,
+            bells: _,
+            waiting: _,
+            due: _,
+            fresh: _,
+            is_lost: _,
+        } = self;
+    }
 }
 
 // What a plan says of a message: it is admitted, or what is said to it.

@@ -32,19 +32,35 @@ impl Rules for ByPlans {
 }
 
 /// What a plan changes: its place in the log, and the numbers of the receivers that are new.
-#[derive(Drop)]
 pub struct Change {
     pub place: u64,
     pub new: Vec<u32>,
 }
 
+// (by hand, so that no crate above proves again how its fields are dropped)
+impl Drop for Change {
+    fn drop(self) {
+        let Change { place: _, new: _ } = self;
+    }
+}
+
 /// The ledger of a gateway, and the plan in force.
-#[derive(Drop)]
 pub struct Office<J: Naming, S: Storage + Drop> {
     pub ledger: Ledger<J, S, ByPlans>,
     pub current: InForce<J>,
     /// When the last record was put, in microseconds: the time of a plan that is repeated.
     pub time: u64,
+}
+
+// (by hand, so that no crate above proves again how its fields are dropped)
+impl<J: Naming, S: Storage + Drop> Drop for Office<J, S> {
+    fn drop(self) {
+        let Office {
+            ledger: _,
+            current: _,
+            time: _,
+        } = self;
+    }
 }
 
 // The number of the receiver of this name, if it has one.

@@ -148,11 +148,21 @@ impl Opened {
 }
 
 /// A beginning of a journal's history that was seen. It stays one. Contracts see it as its events.
-#[derive(Drop)]
 pub struct Front<J: Naming> {
     events: u64,
     seen: Seen<Event, u64, Law>,
     of: PhantomData<J>,
+}
+
+// (by hand, so that no crate above proves again how its fields are dropped)
+impl<J: Naming> Drop for Front<J> {
+    fn drop(self) {
+        let Front {
+            events: _,
+            seen: _,
+            of: _,
+        } = self;
+    }
 }
 
 impl<J: Naming> Model for Front<J> {

@@ -19,10 +19,16 @@ const MOST: u64 = 1 << 62;
 const LONGEST: usize = 1 << 31;
 
 /// A record that was put, at its place in the journal. It need not be on the disk yet.
-#[derive(Drop)]
 pub struct Ticket<J: Naming> {
     front: Front<J>,
     place: u64,
+}
+
+// (by hand, so that no crate above proves again how its fields are dropped)
+impl<J: Naming> Drop for Ticket<J> {
+    fn drop(self) {
+        let Ticket { front: _, place: _ } = self;
+    }
 }
 
 impl<J: Naming> Model for Ticket<J> {
@@ -34,10 +40,16 @@ impl<J: Naming> Model for Ticket<J> {
 }
 
 /// What was seen of a journal, with a record that is on the disk, at its place. It stays there.
-#[derive(Drop)]
 pub struct Receipt<J: Naming> {
     front: Front<J>,
     place: u64,
+}
+
+// (by hand, so that no crate above proves again how its fields are dropped)
+impl<J: Naming> Drop for Receipt<J> {
+    fn drop(self) {
+        let Receipt { front: _, place: _ } = self;
+    }
 }
 
 impl<J: Naming> Model for Receipt<J> {
@@ -49,7 +61,6 @@ impl<J: Naming> Model for Receipt<J> {
 }
 
 /// What lies under the lock: the storage, where no thread has it, and the records that it wasn't given.
-#[derive(Drop)]
 pub struct Desk<J: Naming, S: Storage + Drop> {
     storage: Option<S>,
     batch: Vec<Vec<u8>>,
@@ -57,6 +68,20 @@ pub struct Desk<J: Naming, S: Storage + Drop> {
     settled: u64,
     history: History<J>,
     fault: Option<JournalFault>,
+}
+
+// (by hand, so that no crate above proves again how its fields are dropped)
+impl<J: Naming, S: Storage + Drop> Drop for Desk<J, S> {
+    fn drop(self) {
+        let Desk {
+            storage: _,
+            batch: _,
+            given: _,
+            settled: _,
+            history: _,
+            fault: _,
+        } = self;
+    }
 }
 
 impl<J: Naming, S: Storage + Drop> Model for Desk<J, S> {
@@ -360,7 +385,14 @@ impl<J: Naming, S: Storage + Drop> Desk<J, S> {
         if self.fault.is_some() || !receipt.front.begins(self.history.front()) {
             return None;
         }
-        let Desk { storage, .. } = self;
+        let Desk {
+            storage,
+            batch: _,
+            given: _,
+            settled: _,
+            history: _,
+            fault: _,
+        } = self;
         storage
     }
 }

@@ -11,7 +11,6 @@ use std::marker::Model;
 const MOST: u8 = 4;
 
 /// The storage with a batch that it is to be given. It may have to begin the next file too.
-#[derive(Drop)]
 pub struct Job<J: Naming, S: Storage + Drop> {
     pub(crate) storage: S,
     pub(crate) batch: Vec<Vec<u8>>,
@@ -19,6 +18,20 @@ pub struct Job<J: Naming, S: Storage + Drop> {
     pub(crate) front: Front<J>,
     pub(crate) keep: u64,
     pub(crate) checkpoint: Option<Vec<u8>>,
+}
+
+// (by hand, so that no crate above proves again how its fields are dropped)
+impl<J: Naming, S: Storage + Drop> Drop for Job<J, S> {
+    fn drop(self) {
+        let Job {
+            storage: _,
+            batch: _,
+            given: _,
+            front: _,
+            keep: _,
+            checkpoint: _,
+        } = self;
+    }
 }
 
 impl<J: Naming, S: Storage + Drop> Model for Job<J, S> {
@@ -125,26 +138,14 @@ impl<J: Naming, S: Storage + Drop> Job<J, S> {
     /// Its checkpoint tells of all records.
     ///
     /// Records at places below `keep` are needed no more.
-    pub fn turning(self, keep: u64, checkpoint: Vec<u8>) -> Job<J, S>
+    pub fn turning(mut self, keep: u64, checkpoint: Vec<u8>) -> Job<J, S>
         requires told { S.tells (log_in J.before self.history).records checkpoint.items }
         requires spared { S.spares (log_in J.before self.history).records keep }
         ensures { result ≡ record self { next = Some checkpoint.items; keep = keep } }
     {
-        let Job {
-            storage,
-            batch,
-            given,
-            front,
-            ..
-        } = self;
-        Job {
-            storage,
-            batch,
-            given,
-            front,
-            keep,
-            checkpoint: Some(checkpoint),
-        }
+        self.keep = keep;
+        self.checkpoint = Some(checkpoint);
+        self
     }
 
     /// Gives the storage its batch, and begins the next file, where it is to. A crash at any moment leaves each record that there was a receipt for.
