@@ -6,3 +6,4 @@ pub mod Keeping
 pub mod Remaining
 pub mod Routing
 pub mod Needing
+pub mod Marking

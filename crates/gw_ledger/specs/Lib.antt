@@ -3,4 +3,5 @@ pub mod Putting
 pub mod Finding
 pub mod Accepting
 pub mod Backlogs
+pub mod Marks
 pub mod own

@@ -20,10 +20,16 @@ use std::marker::Model;
 const AHEAD: u64 = 10_000;
 
 /// What was seen of the plan in force: its place.
-#[derive(Drop)]
 pub struct Look<J: Naming> {
     place: u64,
     front: Front<J>,
+}
+
+// (by hand, so that no crate above proves again how its fields are dropped)
+impl<J: Naming> Drop for Look<J> {
+    fn drop(self) {
+        let Look { place: _, front: _ } = self;
+    }
 }
 
 impl<J: Naming> Model for Look<J> {

@@ -1,5 +1,5 @@
 //! What holds of the definitions.
-ghost use Rattle.std.specs.Prelude.{◌≡◌, ◌++◌, ℕ, List};
+ghost use Rattle.std.specs.Prelude.{◌≡◌, ◌≤◌, ◌++◌, ℕ, List, Some, slice_get};
 ghost use mathlib.Core.List.{IsPrefix};
 ghost use Rattle.gw_due.specs.Due.{left};
 ghost use Rattle.gw_due.specs.Events.{Event};
@@ -10,6 +10,8 @@ ghost use Rattle.gw_journal.specs.Logs.{AreFaithful};
 ghost use Rattle.gw_journal.specs.declared.event.Event as happened;
 ghost use Rattle.gw_ledger.specs.Backlogs.{AreFrom};
 ghost use Rattle.gw_ledger.specs.Ledgers.{IsLawful, Spells, events_of, needed_from};
+ghost use Rattle.gw_ledger.specs.Marks.{young_from};
+ghost use Rattle.gw_ledger.specs.declared.needs.Mark.{Mark};
 
 use gw_due::laws::Rules;
 
@@ -36,6 +38,13 @@ pub fn what_is_left_is_needed<R: Rules>()
     ensures now { (log : List Event) → Lawful R.routes log → (receiver : ℕ) → AreFrom (needed_from (state_of log)) (left receiver log) }
     ensures later { (log more : List Event) → Lawful R.routes (log ++ more) → (receiver : ℕ) →
         AreFrom (needed_from (state_of log)) (left receiver (log ++ more)) }
+{}
+
+/// A file whose latest time is a given one or a later one begins no earlier than at the place below which all is older.
+pub fn what_is_young_stays()
+    ensures young { (place since n : ℕ) (files : List Mark) (file : Mark) → slice_get files n ≡ Some file → since ≤ file.latest →
+        young_from place since files ≤ file.first }
+    ensures least { (place since : ℕ) (files : List Mark) → young_from place since files ≤ place }
 {}
 
 /// What was read as it was written was so at each moment before.

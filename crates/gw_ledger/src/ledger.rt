@@ -19,7 +19,6 @@ use std::alloc::Global;
 use std::marker::{Model, PhantomData};
 
 /// A journal whose records spell events, and the state of all events that were put.
-#[derive(Drop)]
 pub struct Ledger<J: Naming, S: Storage + Drop, R: Rules> {
     pub(crate) alloc: Global,
     pub(crate) desk: Desk<J, S>,
@@ -30,6 +29,23 @@ pub struct Ledger<J: Naming, S: Storage + Drop, R: Rules> {
     pub(crate) margin_at: Option<Ticket<J>>,
     tail: (u64, usize),
     rules: PhantomData<R>,
+}
+
+// (by hand, so that no crate above proves again how its fields are dropped)
+impl<J: Naming, S: Storage + Drop, R: Rules> Drop for Ledger<J, S, R> {
+    fn drop(self) {
+        let Ledger {
+            alloc: _,
+            desk: _,
+            state: _,
+            limit: _,
+            keep: _,
+            number: _,
+            margin_at: _,
+            tail: _,
+            rules: _,
+        } = self;
+    }
 }
 
 impl<J: Naming, S: Storage + Drop, R: Rules> Model for Ledger<J, S, R> {
@@ -205,6 +221,16 @@ impl<J: Naming, S: Storage + Drop, R: Rules> Ledger<J, S, R> {
         ensures { self.new ≡ record self.old { keep = place } }
     {
         self.keep = place;
+    }
+
+    /// The next file is begun where the last one has more bytes than this. What it was before.
+    pub fn end_at(&mut self, limit: usize) -> usize
+        ensures before { result ≡ self.old.limit }
+        ensures limit { self.new ≡ record self.old { limit = limit } }
+    {
+        let before = self.limit;
+        self.limit = limit;
+        before
     }
 
     // Puts an entry that the state allows, where it has room and there was no fault.

@@ -21,5 +21,5 @@ pub use checkpoints::Checkpoints;
 pub use fault::{LedgerFault, ScanFault};
 pub use ledger::Ledger;
 pub use messages::Message;
-pub use needs::needed_from;
+pub use needs::{Mark, begun_by, needed_from, young_from};
 pub use scans::{Found, Scan};

@@ -14,12 +14,23 @@ use gw_journal::{Front, Naming, Storage, Ticket};
 use std::marker::Model;
 
 /// What was looked through for a receiver: from where what is left for it begins, up to another place. Nothing is due to it there.
-#[derive(Drop)]
 pub struct Scan<J: Naming> {
     pub(crate) receiver: u32,
     pub(crate) from: u64,
     pub(crate) at: u64,
     pub(crate) front: Front<J>,
+}
+
+// (by hand, so that no crate above proves again how its fields are dropped)
+impl<J: Naming> Drop for Scan<J> {
+    fn drop(self) {
+        let Scan {
+            receiver: _,
+            from: _,
+            at: _,
+            front: _,
+        } = self;
+    }
 }
 
 impl<J: Naming> Model for Scan<J> {
@@ -42,12 +53,23 @@ impl<J: Naming> Scan<J> {
 }
 
 /// The next for a receiver, at its place in the log, if what was read of the log is what was written.
-#[derive(Drop)]
 pub struct Found<J: Naming> {
     pub(crate) receiver: u32,
     pub(crate) from: u64,
     pub(crate) place: u64,
     pub(crate) front: Front<J>,
+}
+
+// (by hand, so that no crate above proves again how its fields are dropped)
+impl<J: Naming> Drop for Found<J> {
+    fn drop(self) {
+        let Found {
+            receiver: _,
+            from: _,
+            place: _,
+            front: _,
+        } = self;
+    }
 }
 
 impl<J: Naming> Model for Found<J> {
