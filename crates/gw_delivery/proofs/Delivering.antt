@@ -7,6 +7,7 @@ use Rattle.std.specs.Prelude.{IsNone, IsSome, IfSome, IfOk, IfErr, OnOk, OnErr, 
 use mathlib.Core.List.{IsPrefix}
 use Rattle.gw_ack.specs.declared.receipt.Ack.{Ack}
 use Rattle.gw_due.specs.Due.{passed}
+use Rattle.gw_due.specs.Events.{How}
 use Rattle.gw_mllp.specs.Stream.{block}
 use Rattle.gw_stream.specs.Sent as device
 use Rattle.gw_forward.specs.declared.outbox.Outbox as outbox
@@ -23,7 +24,7 @@ use Rattle.gw_delivery.specs.Delivering.{Delivers, EndsWith, HasDelivered, HasSt
 use Rattle.gw_delivery.specs.Made.{IsMadeAt}
 use Rattle.gw_delivery.proofs.Making.{made_stays}
 use Rattle.gw_delivery.proofs.Seeing.{later as seen_later}
-use Rattle.gw_delivery.specs.Waiting.{Closes, Follows, Gives, IsHanded, IsNextFor, IsPassed, Keeps, NextState, PassesNext, Settles, Stays, WaitingState, how}
+use Rattle.gw_delivery.specs.Waiting.{Closes, Follows, Gives, IsHanded, IsNextFor, IsPassed, Keeps, NextState, PassesAs, PassesNext, Settles, Stays, WaitingState, how, reason_of}
 
 -- ---- what is left, as it goes on
 
@@ -279,20 +280,20 @@ module _ {O : Type 0} (of : outbox.Ghosts O) (see : O → WaitingState) (before 
       given_known from mid to sent bytes s (gives mid to bytes is) (known before s.mid (see mid).backlog (see to).backlog s.is (gives mid to bytes is).stays.backlog)
 
   -- that one was passed
-  passed_by : (from mid given to : O) (sent bytes : List ℕ) (ack : Ack) (w : SoFar from mid sent) (g : Given from mid given w.mid bytes)
-      (p : PassesNext before (see given) (see to) (how ack)) → p.next ≡ g.next → p.passes.was ≡ g.now
-      → IsPassed before p.passes.was.receiver p.next.place (how ack) p.passes.history → GoesOn before p.passes.was p.passes.now (p.next.place ∷ [])
+  passed_by : (from mid given to : O) (sent bytes : List ℕ) (way : How) (w : SoFar from mid sent) (g : Given from mid given w.mid bytes)
+      (p : PassesNext before (see given) (see to) way) → p.next ≡ g.next → p.passes.was ≡ g.now
+      → IsPassed before p.passes.was.receiver p.next.place way p.passes.history → GoesOn before p.passes.was p.passes.now (p.next.place ∷ [])
       → SoFar from to (sent ++ block bytes)
-  passed_by from mid given to sent bytes ack w g p same_next same_left stored on = record {
+  passed_by from mid given to sent bytes way w g p same_next same_left stored on = record {
     receiver = p.passes.receiver ∙ g.receiver;
     name = p.passes.name ∙ g.name;
     mid = p.passes.now;
     is = p.passes.left_now;
     places = w.places ++ g.next.place ∷ [];
-    delivers = one_more w.places sent w.mid g.now p.passes.now g.next.place bytes (how ack) p.passes.history w.delivers g.on g.handed
-        (subst (λ r. IsPassed before r g.next.place (how ack) p.passes.history) g.handed.of
-        (subst (λ (b : BacklogState). IsPassed before b.receiver g.next.place (how ack) p.passes.history) same_left
-        (subst (λ (n : NextState). IsPassed before p.passes.was.receiver n.place (how ack) p.passes.history) same_next stored)))
+    delivers = one_more w.places sent w.mid g.now p.passes.now g.next.place bytes way p.passes.history w.delivers g.on g.handed
+        (subst (λ r. IsPassed before r g.next.place way p.passes.history) g.handed.of
+        (subst (λ (b : BacklogState). IsPassed before b.receiver g.next.place way p.passes.history) same_left
+        (subst (λ (n : NextState). IsPassed before p.passes.was.receiver n.place way p.passes.history) same_next stored)))
         (subst (λ b. GoesOn before b p.passes.now (g.next.place ∷ [])) same_left
         (subst (λ (n : NextState). GoesOn before p.passes.was p.passes.now (n.place ∷ [])) same_next on));
   }
@@ -300,16 +301,17 @@ module _ {O : Type 0} (of : outbox.Ghosts O) (see : O → WaitingState) (before 
   same_some : {A : Type 0} (o : Option A) (x y : A) → o ≡ Some x → o ≡ Some y → y ≡ x
   same_some o x y p q = cc (p, q)
 
-  one_sent : (from mid given to : O) (sent bytes : List ℕ) (ack : Ack) (w : SoFar from mid sent) (g : Given from mid given w.mid bytes)
-      → PassesNext before (see given) (see to) (how ack) → SoFar from to (sent ++ block bytes)
-  one_sent from mid given to sent bytes ack w g p =
-      passed_by from mid given to sent bytes ack w g p (same_some (see given).next g.next p.next g.next_is p.was_next)
+  one_sent : (from mid given to : O) (sent bytes : List ℕ) (way : How) (w : SoFar from mid sent) (g : Given from mid given w.mid bytes)
+      → PassesNext before (see given) (see to) way → SoFar from to (sent ++ block bytes)
+  one_sent from mid given to sent bytes way w g p =
+      passed_by from mid given to sent bytes way w g p (same_some (see given).next g.next p.next g.next_is p.was_next)
       (same_some (see given).backlog g.now p.passes.was g.is p.passes.left) p.passes.stored p.passes.on
 
   sent_more : (from mid given to : O) (sent bytes : List ℕ) (ack : Ack) → SoFar from mid sent → of.gives mid given bytes
       → of.settles given to ack true → SoFar from to (sent ++ block bytes)
   sent_more from mid given to sent bytes ack w gave settled =
-      one_sent from mid given to sent bytes ack w (given_by from mid given sent bytes w gave) (settles given to ack true settled)
+      let was : PassesAs before (see given) (see to) ack = settles given to ack true settled in
+      one_sent from mid given to sent bytes (how ack (reason_of was.answer)) w (given_by from mid given sent bytes w gave) was.passes
 
   so_far : (from : O) (records : List (List ℕ)) (sent : List ℕ) (blocks : List (List ℕ)) (to : O) → (see from).backlog ≡ Some start
       → Sends of from records sent blocks to → SoFar from to sent

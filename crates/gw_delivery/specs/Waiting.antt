@@ -1,5 +1,5 @@
 -- What waits for a receiver, and what comes of it.
-use Rattle.std.specs.Prelude.{◌≡◌, ◌⊎◌, ⊤, ℕ, Bool, true, false, List, [], ◌∷◌, Option, None, Some, IsNone}
+use Rattle.std.specs.Prelude.{◌≡◌, ◌⊎◌, ⊤, ℕ, Bool, true, false, List, [], ◌∷◌, Option, None, Some, IsNone, take}
 use Rattle.gw_ack.specs.declared.receipt.Ack.{Ack}
 use Rattle.gw_ack.specs.declared.receipt.Ack.TheVariants.{AA, AE, AR}
 use Rattle.gw_due.specs.Events.{How, Taken, Refused, Skipped, Passed}
@@ -77,11 +77,15 @@ pub record Gives (before : List (List ℕ)) (old new : WaitingState) (bytes : Li
   pub stays : Stays before old new
   pub given : IsGiven before new bytes
 
--- how a receiver passes what it acknowledged so
-abbrev pub how : Ack → How
-how AA = Taken
-how AE = Refused 1 []
-how AR = Refused 2 []
+-- how a receiver passes what it acknowledged so, for this reason
+abbrev pub how : Ack → List ℕ → How
+how AA reason = Taken
+how AE reason = Refused 1 reason
+how AR reason = Refused 2 reason
+
+-- the reason by an acknowledgment's content: its first 4,096 bytes
+abbrev pub reason_of : List ℕ → List ℕ
+reason_of content = take 4096 content
 
 -- a record that the receiver passed this stands in the journal, and is on the disk
 pub record IsPassed (before : List (List ℕ)) (receiver place : ℕ) (passed : How) (history : List happened.Event) : Type 0 where
@@ -108,9 +112,14 @@ pub record PassesNext (before : List (List ℕ)) (old new : WaitingState) (passe
   pub was_next : old.next ≡ Some next
   pub passes : Passes before old new next.place passed
 
+-- the receiver passed what was next as it acknowledged it, with the beginning of this acknowledgment as the reason
+pub record PassesAs (before : List (List ℕ)) (old new : WaitingState) (ack : Ack) : Type 0 where
+  pub answer : List ℕ
+  pub passes : PassesNext before old new (how ack (reason_of answer))
+
 -- what was next is settled: the receiver passed it; or it is to be sent again, and nothing changed
 abbrev pub Settles : List (List ℕ) → WaitingState → WaitingState → Ack → Bool → Type 0
-Settles before old new ack true = PassesNext before old new (how ack)
+Settles before old new ack true = PassesAs before old new ack
 Settles before old new ack false = new ≡ old
 
 -- how a receiver passes what a person had passed over: as skipped; or as refused where it is parked, so that it lies with what the receiver refused
@@ -126,4 +135,4 @@ pub record PassesOver (before : List (List ℕ)) (old new : WaitingState) (passe
 -- The first that is left was passed as refused, and was not sent: it can't be made, or no block can have it
 pub record PutsAside (before : List (List ℕ)) (old new : WaitingState) : Type 0 where
   pub place : ℕ
-  pub passes : Passes before old new place (how AR)
+  pub passes : Passes before old new place (how AR [])

@@ -4,7 +4,8 @@
 //! or which is due to it once more; and so is the file of the plan that it is under.
 use crate::fault::PageFault;
 use crate::pages::{Page, Pages, Tail};
-use gw_due::{Event, How, ReadFault, read};
+use gw_due::{Entry, Event, How, ReadFault, read};
+use gw_ledger::{Mark, begun_by, young_from};
 use gw_log::Calls;
 use std::alloc::{AllocError, Global};
 use std::collections::VecDeque;
@@ -12,30 +13,45 @@ use std::collections::VecDeque;
 /// How many records are read on at once.
 const MOST: u64 = 50_000;
 
-/// A file that was begun: its number, the place of its first record, and whether that is a plan.
-#[derive(Clone, Copy)]
-struct Begun {
-    number: u64,
-    first: u64,
-    has_plan: bool,
-}
-
-/// A message that was accepted at `place`, and is kept for a receiver: it refused it, or it is due to it once more, at `at`.
+/// A message that was accepted at `place`, and is kept for a receiver: it refused it, or it is due to it once more, at `at`. The record at `by` says so.
 #[derive(Clone, Copy)]
 struct Kept {
     receiver: u32,
     at: u64,
     place: u64,
+    by: u64,
+}
+
+/// A message that was accepted at `place`, and lies refused: the record at `by` says how it was.
+#[derive(Clone, Copy)]
+pub struct Refused {
+    pub place: u64,
+    pub by: u64,
 }
 
 /// What all records up to a place say of files, and of what lies refused. It grows with the files, and with what lies refused.
-#[derive(Drop)]
 pub struct Keeper<V: Calls + Drop> {
     alloc: Global,
     pages: Pages<V>,
-    files: VecDeque<Begun>,
+    files: Vec<Mark>,
+    // the number of the last file that was read
+    number: u64,
     refused: VecDeque<Kept>,
     repeated: VecDeque<Kept>,
+}
+
+// (by hand, so that no crate above proves again how its fields are dropped)
+impl<V: Calls + Drop> Drop for Keeper<V> {
+    fn drop(self) {
+        let Keeper {
+            alloc: _,
+            pages: _,
+            files: _,
+            number: _,
+            refused: _,
+            repeated: _,
+        } = self;
+    }
 }
 
 /// Takes the first out that is a receiver's, at this place.
@@ -52,7 +68,8 @@ impl<V: Calls + Drop> Keeper<V> {
         Keeper {
             alloc,
             pages: Pages::new(alloc, view),
-            files: VecDeque::new(alloc),
+            files: Vec::new(alloc),
+            number: 0,
             refused: VecDeque::new(alloc),
             repeated: VecDeque::new(alloc),
         }
@@ -72,6 +89,7 @@ impl<V: Calls + Drop> Keeper<V> {
                     receiver: *receiver,
                     at,
                     place: *place,
+                    by: at,
                 })?;
             }
             Event::Passed {
@@ -88,6 +106,7 @@ impl<V: Calls + Drop> Keeper<V> {
                         receiver: *receiver,
                         at: place,
                         place,
+                        by: at,
                     })?;
                 }
             }
@@ -96,26 +115,36 @@ impl<V: Calls + Drop> Keeper<V> {
         Ok(())
     }
 
+    // Notes which file an event stands in, at this place.
+    fn mark(&mut self, at: u64, time: u64, event: &Event<'_>) -> Result<(), AllocError> {
+        let number = self.pages.segment();
+        if number != self.number {
+            self.number = number;
+            if self.files.is_empty() || matches!(event, Event::Planned { .. }) {
+                self.files.push(Mark {
+                    number,
+                    first: at,
+                    latest: 0,
+                })?;
+            }
+        }
+        if matches!(event, Event::Accepted { .. } | Event::Passed { .. })
+            && let Some(file) = self.files.last_mut()
+        {
+            file.latest = file.latest.max(time).max(1);
+        }
+        Ok(())
+    }
+
     // Goes over a record.
     fn note(&mut self, page: &Page) -> Result<(), PageFault> {
-        let entry = match read(self.alloc, &page.bytes) {
+        let Entry { time, event } = match read(self.alloc, &page.bytes) {
             Ok(entry) => entry,
             Err(ReadFault::Memory) => return Err(PageFault::Memory),
             Err(ReadFault::Unreadable) => return Err(PageFault::Message { place: page.place }),
         };
-        let number = self.pages.segment();
-        let is_next = match self.files.back() {
-            Some(file) => file.number != number,
-            None => true,
-        };
-        if is_next {
-            self.files.push_back(Begun {
-                number,
-                first: page.place,
-                has_plan: matches!(entry.event, Event::Planned { .. }),
-            })?;
-        }
-        self.over(page.place, &entry.event)?;
+        self.mark(page.place, time, &event)?;
+        self.over(page.place, &event)?;
         Ok(())
     }
 
@@ -136,32 +165,80 @@ impl<V: Calls + Drop> Keeper<V> {
         Ok(false)
     }
 
-    /// Where the messages stand that lie refused by a receiver, in the order in which it refused them.
-    pub fn refused(&self, receiver: u32) -> Result<Vec<u64>, AllocError> {
+    /// The messages that lie refused by a receiver, in the order in which it refused them.
+    pub fn refused(&self, receiver: u32) -> Result<Vec<Refused>, AllocError> {
         let mut places = Vec::new(self.alloc);
         for one in &self.refused {
             if one.receiver == receiver {
-                places.push(one.place)?;
+                places.push(Refused {
+                    place: one.place,
+                    by: one.by,
+                })?;
             }
         }
         Ok(places)
     }
 
-    /// The place of the first record of the first file that is needed, where what is left for receivers begins at this place.
-    pub fn needed(&self, left: u64) -> u64 {
+    // From where on records are needed, or a message was accepted or passed at this time or later. What is left for receivers begins at the other place.
+    fn kept(&self, left: u64, since: u64) -> u64 {
         let mut place = left;
         for one in self.refused.iter().chain(self.repeated.iter()) {
             place = place.min(one.place);
         }
-        let mut needed = match self.files.front() {
-            Some(file) => file.first,
-            None => 0,
-        };
-        for file in &self.files {
-            if file.first <= place && file.has_plan {
-                needed = file.first;
-            }
+        young_from(place, since, &self.files)
+    }
+
+    /// The place of the first record of the first file that is needed, or in which a message was accepted or passed at this time or later.
+    /// What is left for receivers begins at the other place.
+    pub fn needed(&self, left: u64, since: u64) -> u64 {
+        begun_by(self.kept(left, since), &self.files)
+    }
+
+    /// Whether a message was accepted or passed in the last file.
+    pub fn has_message(&self) -> bool {
+        match self.files.last() {
+            Some(file) => file.latest > 0,
+            None => false,
         }
-        needed
+    }
+
+    /// Whether nothing is needed of all that was read, and no message was accepted or passed at this time or later.
+    pub fn is_free(&self, left: u64, since: u64) -> bool {
+        self.kept(left, since) >= self.pages.place()
+    }
+
+    /// How many bytes the files have that were read, up to the last one that counts.
+    pub fn bytes(&mut self, tail: Tail) -> u64 {
+        let first = match self.files.first() {
+            Some(file) => file.number,
+            None => tail.segment,
+        };
+        let mut bytes = 0_u64;
+        for number in first..=tail.segment {
+            bytes = bytes.saturating_add(self.pages.size(number) as u64);
+        }
+        bytes
+    }
+
+    /// Whether a file in which a message was accepted or passed goes when the next one is begun, where records are needed from this place on.
+    pub fn frees(&mut self, needed: u64) -> bool {
+        for _ in 0..self.files.len() {
+            let Some(file) = self.files.first() else {
+                break;
+            };
+            let number = file.number;
+            if self.pages.size(number) > 0 || self.files.is_empty() {
+                break;
+            }
+            let _gone = self.files.remove(0);
+        }
+        let mut has_message = false;
+        for file in &self.files {
+            if has_message && file.first <= needed {
+                return true;
+            }
+            has_message = has_message || file.latest > 0;
+        }
+        false
     }
 }

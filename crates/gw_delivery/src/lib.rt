@@ -21,7 +21,7 @@ mod under;
 mod walk;
 
 pub use fault::PageFault;
-pub use keeping::Keeper;
+pub use keeping::{Keeper, Refused};
 pub use pages::{Page, Pages, Tail};
 pub use past::Past;
 pub use pending::{Line, Pending};

@@ -20,7 +20,6 @@ pub struct Page {
 }
 
 /// Reads a log's files on, from one record to the next. It needs memory for one record.
-#[derive(Drop)]
 pub struct Pages<V: Calls + Drop> {
     alloc: Global,
     view: Option<V>,
@@ -31,6 +30,24 @@ pub struct Pages<V: Calls + Drop> {
     plan: Option<u64>,
     // records at places below this one may be gone, by the head of the file that was opened last
     kept: u64,
+    // the file has no record from this place on; 0 where that isn't known
+    until: u64,
+}
+
+// (by hand, so that no crate above proves again how its fields are dropped)
+impl<V: Calls + Drop> Drop for Pages<V> {
+    fn drop(self) {
+        let Pages {
+            alloc: _,
+            view: _,
+            segment: _,
+            at: _,
+            place: _,
+            plan: _,
+            kept: _,
+            until: _,
+        } = self;
+    }
 }
 
 impl<V: Calls + Drop> Pages<V> {
@@ -44,6 +61,7 @@ impl<V: Calls + Drop> Pages<V> {
             place: 0,
             plan: None,
             kept: 0,
+            until: 0,
         }
     }
 
@@ -60,6 +78,19 @@ impl<V: Calls + Drop> Pages<V> {
     /// Where the plan in force there stands.
     pub fn plan(&self) -> Option<u64> {
         self.plan
+    }
+
+    /// Whether the record at a place that isn't before this one is known to stand in this file. Files behind it may go before they are read.
+    pub(crate) fn has(&self, tail: Tail, place: u64) -> bool {
+        self.segment == tail.segment || place < self.until
+    }
+
+    /// How many bytes a file has; 0 where there is none.
+    pub(crate) fn size(&mut self, segment: u64) -> usize {
+        match self.view.as_mut() {
+            Some(view) => view.size(segment).unwrap_or(0),
+            None => 0,
+        }
     }
 
     /// The fault of what stands here.
@@ -116,6 +147,7 @@ impl<V: Calls + Drop> Pages<V> {
     fn open(&mut self, segment: u64, tail: Tail) -> Result<u64, PageFault> {
         self.segment = segment;
         self.at = 0;
+        self.until = 0;
         let upto = self.end_of(tail)?;
         let Some(bytes) = self.record(upto)? else {
             return self.damaged();
@@ -137,15 +169,18 @@ impl<V: Calls + Drop> Pages<V> {
 
     /// Goes to the file that has this place: the last one whose first record stands there or before.
     pub fn seek(&mut self, tail: Tail, place: u64) -> Result<(), PageFault> {
-        let mut segment = tail.segment;
+        let (mut segment, mut until) = (tail.segment, 0);
         for _ in 0..u64::MAX {
-            if self.open(segment, tail)? <= place {
+            let first = self.open(segment, tail)?;
+            self.until = until;
+            if first <= place {
                 return Ok(());
             }
             if segment == 0 {
                 break;
             }
             segment -= 1;
+            until = first;
         }
         self.damaged()
     }
@@ -206,15 +241,16 @@ impl<V: Calls + Drop> Pages<V> {
         self.damaged()
     }
 
-    /// Goes to the first record of the first file.
+    /// Goes to the first record of the first file that is there. None goes but from the front.
     pub fn rewind(&mut self, tail: Tail) -> Result<(), PageFault> {
-        let Some(view) = self.view.as_mut() else {
-            return self.damaged();
-        };
-        let Some((first, _)) = view.ends() else {
-            return self.damaged();
-        };
-        self.open(first.max(1), tail)?;
+        let mut first = tail.segment;
+        for _ in 0..u64::MAX {
+            if first <= 1 || self.size(first - 1) == 0 {
+                break;
+            }
+            first -= 1;
+        }
+        self.open(first, tail)?;
         Ok(())
     }
 }

@@ -8,7 +8,6 @@ use gw_plan::{Plan, PlanFault};
 use std::alloc::Global;
 
 /// A log, as a start reads it.
-#[derive(Drop)]
 pub struct Past<V: Calls + Drop> {
     alloc: Global,
     tail: Tail,
@@ -17,6 +16,19 @@ pub struct Past<V: Calls + Drop> {
     others: Pages<V>,
     // the plan that was looked at last, by its place
     plan: Option<u64>,
+}
+
+// (by hand, so that no crate above proves again how its fields are dropped)
+impl<V: Calls + Drop> Drop for Past<V> {
+    fn drop(self) {
+        let Past {
+            alloc: _,
+            tail: _,
+            pages: _,
+            others: _,
+            plan: _,
+        } = self;
+    }
 }
 
 /// Whether what is due to a receiver at this place is left for it.

@@ -3,7 +3,7 @@ ghost use Rattle.std.specs.Prelude.{◌≡◌, ◌+◌, ◌∷◌, [], IfOk, IfS
 ghost use Rattle.gw_due.specs.Views as view;
 ghost use Rattle.gw_ledger.specs.Backlogs.{GoesOn, WasFirst};
 ghost use Rattle.gw_delivery.specs.Waiting as spec;
-ghost use Rattle.gw_delivery.specs.Waiting.{Closes, Gives, IsPassed, Keeps, Passes, PassesNext, PassesOver, PutsAside, Stays};
+ghost use Rattle.gw_delivery.specs.Waiting.{Closes, Gives, IsPassed, Keeps, Passes, PassesAs, PassesNext, PassesOver, PutsAside, Stays};
 
 use crate::fault::PageFault;
 use crate::finder::Finder;
@@ -24,6 +24,9 @@ use std::sync::Wait;
 /// How often a message that its receiver rejects is sent.
 const TRIES: u64 = 3;
 
+/// How many bytes of an acknowledgment a record has at most.
+const LONGEST: usize = 4_096;
+
 /// A receiver's line, as the program has it.
 pub trait Line {
     /// Whether nothing more is sent.
@@ -35,8 +38,8 @@ pub trait Line {
     /// Waits until it was rung for, for a while at most.
     fn wait(&self);
 
-    /// An acknowledgment came.
-    fn count(&self, ack: Ack);
+    /// An acknowledgment came. Its content, as it was read; it is empty where that isn't known.
+    fn count(&self, ack: Ack) -> Vec<u8>;
 
     /// As many are left. `is_next`: another one is the first.
     fn stands(&self, left: u64, is_next: bool);
@@ -55,7 +58,6 @@ pub trait Line {
 }
 
 /// What waits for a receiver.
-#[derive(Drop)]
 pub struct Pending<'a, J: Naming, S: Storage + Drop, V: Calls + Drop, R: Wait, L, T> {
     finder: Finder<'a, J, S, V, R>,
     line: &'a L,
@@ -69,6 +71,25 @@ pub struct Pending<'a, J: Naming, S: Storage + Drop, V: Calls + Drop, R: Wait, L
     sent: &'a Cell<bool>,
     tries: u64,
     count: u64,
+}
+
+// (by hand, so that no crate above proves again how its fields are dropped)
+impl<'a, J: Naming, S: Storage + Drop, V: Calls + Drop, R: Wait, L, T> Drop
+    for Pending<'a, J, S, V, R, L, T> {
+    fn drop(self) {
+        let Pending {
+            finder: _,
+            line: _,
+            times: _,
+            receiver: _,
+            name: _,
+            backlog: _,
+            next: _,
+            sent: _,
+            tries: _,
+            count: _,
+        } = self;
+    }
 }
 
 /// How a receiver stands in the log: how many are left for it, from where on, and up to where the log counts.
@@ -125,20 +146,14 @@ fn passed<J: Naming, S: Storage + Drop, R: Wait>(
     }
 }
 
-// How a receiver passes what it acknowledged so.
-fn how(ack: Ack) -> How<'static>
-    ensures { view.how result ≡ spec.how ack }
+// How a receiver passes what it acknowledged so, for this reason.
+fn how(ack: Ack, reason: &[u8]) -> How<'_>
+    ensures { view.how result ≡ spec.how ack reason.now }
 {
     match ack {
         Ack::AA => How::Taken,
-        Ack::AE => How::Refused {
-            code: 1,
-            reason: b"",
-        },
-        Ack::AR => How::Refused {
-            code: 2,
-            reason: b"",
-        },
+        Ack::AE => How::Refused { code: 1, reason },
+        Ack::AR => How::Refused { code: 2, reason },
     }
 }
 
@@ -447,6 +462,20 @@ impl<'a, J: Naming, S: Storage + Drop, V: Calls + Drop, R: Wait, L: Line, T: Tim
         Ok(place)
     }
 
+    // The receiver passes what is next as it acknowledged it: by this answer, of which the record has the beginning. Its place.
+    fn pass_as(&mut self, ack: Ack, answer: Vec<u8>) -> Result<u64, OutboxFault>
+        ensures passes { OnOk result (PassesAs J.before (record { receiver = self.old.receiver; name = self.old.name.now; backlog = self.old.backlog; next = self.old.next })
+            (record { receiver = self.new.receiver; name = self.new.name.now; backlog = self.new.backlog; next = self.new.next }) ack) }
+        ensures keeps { OnErr result (Keeps (record { receiver = self.old.receiver; name = self.old.name.now; backlog = self.old.backlog; next = self.old.next })
+            (record { receiver = self.new.receiver; name = self.new.name.now; backlog = self.new.backlog; next = self.new.next })) }
+        ensures counted { OnOk result (self.new.count ≡ self.old.count + 1) }
+        ensures uncounted { OnErr result (self.new.count ≡ self.old.count) }
+    {
+        let mut reason = answer;
+        reason.truncate(LONGEST);
+        self.pass(how(ack, &reason))
+    }
+
     // The receiver passes what can't be made. Its place, why it can't, and what is left then.
     fn passed_unmade(&self, how: How<'_>) -> Result<(u64, PageFault, Backlog<J>), OutboxFault>
         ensures { IfOk result (λ x. Passes J.before (record { receiver = self.now.receiver; name = self.now.name.now; backlog = self.now.backlog; next = self.now.next })
@@ -471,7 +500,7 @@ impl<'a, J: Naming, S: Storage + Drop, V: Calls + Drop, R: Wait, L: Line, T: Tim
         ensures keeps { OnErr result (Keeps (record { receiver = self.old.receiver; name = self.old.name.now; backlog = self.old.backlog; next = self.old.next })
             (record { receiver = self.new.receiver; name = self.new.name.now; backlog = self.new.backlog; next = self.new.next })) }
     {
-        let (place, fault, left) = self.passed_unmade(how(Ack::AR))?;
+        let (place, fault, left) = self.passed_unmade(how(Ack::AR, &[]))?;
         if !self.go_on(left) {
             return Err(OutboxFault::Disk);
         }
@@ -490,7 +519,7 @@ impl<'a, J: Naming, S: Storage + Drop, V: Calls + Drop, R: Wait, L: Line, T: Tim
         if self.next.is_none() {
             return self.pass_unmade();
         }
-        let place = self.pass(how(Ack::AR))?;
+        let place = self.pass(how(Ack::AR, &[]))?;
         self.line.unsendable(place, None);
         Ok(())
     }
@@ -553,14 +582,14 @@ impl<J: Naming, S: Storage + Drop, V: Calls + Drop, R: Wait, L: Line, T: Times> 
     }
 
     fn settle(&mut self, ack: Ack) -> Result<bool, OutboxFault> {
-        self.line.count(ack);
+        let answer = self.line.count(ack);
         if ack == Ack::AR {
             self.tries = self.tries.saturating_add(1);
             if self.tries < TRIES {
                 return Ok(false);
             }
         }
-        let place = self.pass(how(ack))?;
+        let place = self.pass_as(ack, answer)?;
         match ack {
             Ack::AA => self.line.taken(),
             _ => self.line.refused(place, ack),

@@ -43,7 +43,6 @@ pub struct Stood {
 }
 
 /// A message that was found: where it was accepted, when, under which number, how many bytes it has, and how each receiver stands with it.
-#[derive(Drop)]
 pub struct Filed {
     pub place: u64,
     pub time: u64,
@@ -52,14 +51,39 @@ pub struct Filed {
     pub to: Vec<Stood>,
 }
 
+// (by hand, so that no crate above proves again how its fields are dropped)
+impl Drop for Filed {
+    fn drop(self) {
+        let Filed {
+            place: _,
+            time: _,
+            number: _,
+            size: _,
+            to: _,
+        } = self;
+    }
+}
+
 /// Looks for messages. It keeps those that it found, and no byte of them.
-#[derive(Drop)]
 pub struct Search<V: Calls + Drop> {
     alloc: Global,
     pages: Pages<V>,
     wanted: Wanted,
     found: VecDeque<Filed>,
     earlier: u64,
+}
+
+// (by hand, so that no crate above proves again how its fields are dropped)
+impl<V: Calls + Drop> Drop for Search<V> {
+    fn drop(self) {
+        let Search {
+            alloc: _,
+            pages: _,
+            wanted: _,
+            found: _,
+            earlier: _,
+        } = self;
+    }
 }
 
 // The first segment of a message.

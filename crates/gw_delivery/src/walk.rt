@@ -12,9 +12,6 @@ use gw_log::Calls;
 use std::alloc::Global;
 use std::sync::Wait;
 
-/// How many records at most are read one by one, before the file of a place is looked for.
-const FAR: u64 = 10_000;
-
 /// What is read of a log: from a file's first record on, so that the plan in force is known. Each record is noted in its journal.
 #[derive(Drop)]
 pub(crate) struct Walk<J: Naming, V: Calls + Drop> {
@@ -49,10 +46,13 @@ impl<J: Naming, V: Calls + Drop> Walk<J, V> {
         self.under = None;
     }
 
-    // Whether it can be read on from here to this place, which isn't far.
-    fn leads_to(&self, place: u64) -> bool {
+    // Whether it can be read on from here to this place: it is the next, or stands in this file. Of the files between some may be gone.
+    fn leads_to(&self, tail: Tail, place: u64) -> bool {
         let here = self.pages.place();
-        if self.pages.segment() == 0 || here > place || place - here > FAR {
+        if self.pages.segment() == 0 || here > place {
+            return false;
+        }
+        if here < place && !self.pages.has(tail, place) {
             return false;
         }
         match &self.under {
@@ -63,7 +63,7 @@ impl<J: Naming, V: Calls + Drop> Walk<J, V> {
 
     /// Goes to the file that has this place, where it doesn't lead there already.
     pub(crate) fn seek(&mut self, tail: Tail, place: u64) -> Result<(), PageFault> {
-        if self.leads_to(place) {
+        if self.leads_to(tail, place) {
             return Ok(());
         }
         self.under = None;

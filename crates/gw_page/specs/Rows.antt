@@ -34,7 +34,7 @@ counts r = cell (decimal r.waiting) ++ cell (decimal r.oldest) ++ cell (decimal 
 
 -- a receiver's row
 unfoldable pub row : Receiver → List ℕ
-row r = codes "<tr>" ++ header r ++ counts r ++ codes "</tr>\n"
+row r = codes "<tr>" ++ header r ++ counts r ++ cell (escaped r.why.items) ++ codes "</tr>\n"
 
 abbrev pub rows : List Receiver → List ℕ
 rows receivers = flat_map row receivers

@@ -48,6 +48,12 @@ const ENTRIES: Metric = Metric {
     help: b"Records of the log.",
 };
 
+const BYTES: Metric = Metric {
+    name: b"hl7gate_log_bytes",
+    kind: GAUGE,
+    help: b"Bytes of the log's files.",
+};
+
 const SHORT: Metric = Metric {
     name: b"hl7gate_short_of_room",
     kind: GAUGE,
@@ -104,6 +110,7 @@ fn put_gateway(out: &mut Vec<u8>, figures: &Figures) -> Result<(), AllocError> {
     put_whole(out, &TAKEN, figures.sessions)?;
     put_whole(out, &PLAN, figures.plan)?;
     put_whole(out, &ENTRIES, figures.entries)?;
+    put_whole(out, &BYTES, figures.bytes)?;
     put_whole(out, &SHORT, u64::from(figures.is_short))
 }
 

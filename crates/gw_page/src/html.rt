@@ -40,7 +40,7 @@ const RECEIVERS: &[u8] = b"<h2 id=\"receivers\">Receivers</h2>
 <thead>
 <tr><th scope=\"col\">Receiver</th><th scope=\"col\">State</th><th scope=\"col\">Waiting</th>
 <th scope=\"col\">First waits (s)</th><th scope=\"col\">Sent</th><th scope=\"col\">AA</th><th scope=\"col\">AE</th><th scope=\"col\">AR</th>
-<th scope=\"col\">Lie refused</th></tr>
+<th scope=\"col\">Lie refused</th><th scope=\"col\">Last refusal</th></tr>
 </thead>
 <tbody>
 ";

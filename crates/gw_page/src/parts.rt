@@ -76,6 +76,7 @@ fn put_row(out: &mut Vec<u8>, receiver: &Receiver) -> Result<(), AllocError>
     put(out, b"<tr>")?;
     put_header(out, receiver)?;
     put_counts(out, receiver)?;
+    put_cell(out, receiver.why.as_slice())?;
     put(out, b"</tr>\n")
 }
 

@@ -13,10 +13,16 @@ const LAST: usize = 20;
 const CODES: usize = 9;
 
 /// The last refusals, the last of them first, and how often each code was answered.
-#[derive(Drop)]
 pub struct Recent {
     last: Vec<Refusal>,
     codes: [Refused; CODES],
+}
+
+// (by hand, so that no crate above proves again how its fields are dropped)
+impl Drop for Recent {
+    fn drop(self) {
+        let Recent { last: _, codes: _ } = self;
+    }
 }
 
 /// A copy of what is kept: the refusals, the last of them first, how often each code was answered, and how many answers these are in all.

@@ -12,5 +12,5 @@ invariant_of-result g c =
       bytes = c.args.bytes.items;
       history = c.longer-front.result;
     } in
-    let found = rw c.front-2.ensures at c.longer-front.ensures.other in
+    let found = rw c.front.ensures at c.longer-front.ensures.other in
     next_for g.J.Naming.before n c.args.found.history c.args.front c.place-place.ensures.found found c.requires.made c.longer-front.ensures.one
