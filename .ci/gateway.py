@@ -35,10 +35,26 @@ def logged(answer):
     return b" ".join([header[9], control, acknowledged[1], error[3].split(b"^")[0], *place]).decode()
 
 
-def noted(message, answer):
-    """The line of an answer but its time and session: behind what `logged` says comes who sent the message, by MSH-3 and MSH-4 too, where these could be read."""
-    line, (_, _, name, place) = logged(answer), message.split(b"|")[:4]
-    return line + " from PEER" + (f" {name.decode()}|{place.decode()}" if line.split()[1] != "-" else "")
+def sender_of(message):
+    """Who sent a message: by the connection, and by MSH-3 and MSH-4."""
+    name, place = message.split(b"|")[2:4]
+    return f" from PEER {name.decode()}|{place.decode()}"
+
+
+def noted(message, answer, reason=""):
+    """The line of an answer but its time and session. Behind what `logged` says comes the reason of a 207, and who sent the message, by MSH-3 and MSH-4 too, where these could be read."""
+    line = logged(answer)
+    return line + reason + (" from PEER" if line.split()[1] == "-" else sender_of(message))
+
+
+def refused_that_day():
+    """What the log of refusals says of the day: of each answer but AA. The sixth message has a byte that no message has."""
+    refused = [(*it, "") for it in zip(MESSAGES, ANSWERS) if b"MSA|AA" not in it[1]]
+    content = MESSAGES[5][1:-2]
+    at = re.search(rb"[\x00-\x08\x0b\x0c\x0e-\x1f]", content).start()
+    segment = content[:at].count(b"\r") + 1
+    refused[2] = (*refused[2][:2], f" message refused 3 in segment {segment} at byte {at}")
+    return [noted(*it) for it in refused]
 
 
 class Receiver:

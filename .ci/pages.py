@@ -98,7 +98,7 @@ def page(gateway):
     rows = [re.findall(r"<td>(.*?)</td>", it) for it in re.findall(r"<tr>.*?</tr>", text)]
     taken = (len(LEFT["WARDS"]) - 1, 1), (len(LEFT["ARCHIVE"]), 0)
     stated = [["connected", "0", "0", f"{aa + ae}", f"{aa}", f"{ae}", "0"] for aa, ae in taken]
-    same("the receivers' rows", sorted(stated), sorted(it[:-1] for it in rows if len(it) == 8))
+    same("the receivers' rows", sorted(stated), sorted(it[:-2] for it in rows if len(it) == 9))
     told = [[re.sub(r"127\.0\.0\.1:\d+", "PEER", it[2]), *it[3:]] for it in rows if len(it) == 7]
     senders = [noted(*it).split(" from ")[1] for it in zip(MESSAGES, ANSWERS) if it[1] in refusals]
     lines = [logged(it).split() for it in refusals]
@@ -229,12 +229,13 @@ def page_of_the_refused(gateway):
     lie = lambda: [it["lie_refused"] for it in sorted(gateway.status()["receivers"], key=lambda it: it["name"])]
     shown(gateway)
     gateway.answered(gateway.ask([REPORT]), ANSWERS[:1])
-    for _ in range(2):
+    # (the last refusal is that since the start)
+    for last in "AE", "":
         same("what lies refused", [0, 1], gateway.once([0, 1], lie))
         same("health", (200, "ok\nreceiver WARDS: messages refused and not sent again: 1\n"), (lambda it: (it[0], it[2]))(got(gateway, "/health")))
         text = got(gateway, "/")[2]
         same("the page", 1, text.count('<p class="state">All is well.\nreceiver WARDS: messages refused and not sent again: 1</p>'))
-        same("the rows' last cells", ["0", "1"], sorted(re.findall(r"<td>(\d+)</td></tr>", text)))
+        same("the rows' last cells", [("0", ""), ("1", last)], sorted(re.findall(r"<td>(\d+)</td><td>([^<]*)</td></tr>", text)))
         found = samples(got(gateway, "/metrics")[2])
         same("the metric", [0, 1], [found["hl7gate_refused_messages", (("receiver", it),)] for it in ("ARCHIVE", "WARDS")])
         gateway.stop()

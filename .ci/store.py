@@ -2,10 +2,16 @@
 
 The files of logs are made by log_files.py, and not by the program.
 """
+import subprocess
+import time
+
 from disks import NOW, begun, lay, report
 from gateway import REPORT, Receiver
 from log_files import SKIPPED, TAKEN, accepted, again, chain, passed, planned, refused, state
-from loopback import LEFT, SECRETS, same
+from loopback import ANSWERS, LEFT, MESSAGES, SECRETS, same
+from pages import got, samples, shown
+from past import CLOCK
+from preload import library_in
 
 SIZE = len(REPORT) - 3
 AT = "2026-11-30T14:05:06.0000%02dZ"
@@ -139,7 +145,7 @@ def passed_over(gateway):
     same("the first", "the message at 4 was skipped for WARDS (1)", how("LAB0001"))
     same("the second", "WARDS (1) refused the message at 5, code 3", how("LAB0002"))
     same("the third", "WARDS (1) took the message at 6", gateway.once("WARDS (1) took the message at 6", lambda: how("LAB0003")))
-    same("skip of nothing", (1, "refused: nothing waits for WARDS\n"), gateway.tell("skip", "WARDS"))
+    same("skip of nothing", (1, "refused: nothing waits for this receiver\n"), gateway.tell("skip", "WARDS"))
     same("skip for nobody", NO_RECEIVER, gateway.tell("skip", "NOBODY"))
     same("resend", (0, "resent 1\n"), gateway.tell("resend", "WARDS"))
     wards.has([*its, its[1]], gateway.until)
@@ -160,4 +166,137 @@ def passed_away(gateway):
     wards.open(wards.port)
     gateway.tell("go", "WARDS")
     wards.has([LEFT["WARDS"][0].replace(b"LAB0007", b"LAB0003")], gateway.until)
+    gateway.kill()
+
+
+def files(gateway):
+    return sorted(int(it.name.split(".")[0]) for it in gateway.folder.glob("*.segment"))
+
+
+def held(gateway):
+    """The words of patients in the files of the folder."""
+    texts = [it.read_bytes() for it in gateway.folder.iterdir() if it.is_file() and it.name != "reserve"]
+    return sorted(word for word in SECRETS if any(word.encode() in it for it in texts))
+
+
+def sealed(gateway):
+    """`seal` ends the last file: what was delivered leaves the disk, and what waits stays. The next start goes on, and words read the log from its first file on."""
+    wards, archive, tell = Receiver(), Receiver(), gateway.tell
+    gateway.play(WARDS=wards, ARCHIVE=archive)
+    gateway.start()
+    same("hold", 0, tell("hold", "ARCHIVE")[0])
+    gateway.answered(gateway.ask(MESSAGES), ANSWERS)
+    wards.has(LEFT["WARDS"], gateway.until)
+    same("what waits", [2, 0], gateway.once([2, 0], gateway.waiting))
+    same("seal where something waits", (0, "sealed 1\n"), tell("seal"))
+    same("the files, and whether patients' words are in them", ([1, 2], True), (files(gateway), bool(held(gateway))))
+    same("go", 0, tell("go", "ARCHIVE")[0])
+    archive.has(LEFT["ARCHIVE"], gateway.until)
+    same("what waits", [0, 0], gateway.once([0, 0], gateway.waiting))
+    same("seal where nothing waits", (0, "sealed 2\n"), tell("seal"))
+    same("the files, and patients' words in them", ([3, 4], []), (files(gateway), held(gateway)))
+    same("show of what is gone", (1, "refused: the log has no accepted message at place 4\n"), tell("show", "4"))
+    gateway.kill()
+    gateway.start()
+    gateway.ask([REPORT])
+    wards.has(LEFT["WARDS"] + LEFT["WARDS"][:1], gateway.until)
+    archive.has(LEFT["ARCHIVE"] + LEFT["ARCHIVE"][:1], gateway.until)
+    same("what waits", [0, 0], gateway.once([0, 0], gateway.waiting))
+    same("find in later files", 0, tell("find", "LAB0007")[0])
+    same("seal after a restart", (0, "sealed 4\n"), tell("seal"))
+    same("the files, and patients' words in them", ([5, 6], []), (files(gateway), held(gateway)))
+    # (each forwarder rests in a file that is gone)
+    gateway.ask([REPORT])
+    wards.has(LEFT["WARDS"] + LEFT["WARDS"][:1] * 2, gateway.until)
+    same("a word that isn't there", 1, tell("seal", "6")[0])
+    gateway.kill()
+
+
+def leaves(gateway):
+    """What was delivered leaves the disk by itself within two minutes. Then no file is begun any more. The metrics say how many bytes the files have."""
+    gateway.until += 100
+    gateway.play(WARDS=Receiver(), ARCHIVE=Receiver())
+    shown(gateway)
+    gateway.answered(gateway.ask(MESSAGES), ANSWERS)
+    for name, receiver in gateway.receivers.items():
+        receiver.has(LEFT[name], gateway.until)
+    same("whether patients' words are in the files", True, bool(held(gateway)))
+    same("patients' words in the files", [], gateway.once([], lambda: held(gateway)))
+    left = gateway.once([2, 3], lambda: files(gateway))
+    same("the files", [2, 3], left)
+    time.sleep(65)
+    same("the files a minute later", left, files(gateway))
+    size = sum(it.stat().st_size for it in gateway.folder.glob("*.segment"))
+    same("the bytes of the files", size, samples(got(gateway, "/metrics")[2])["hl7gate_log_bytes", ()])
+    gateway.ask([REPORT])
+    gateway.receivers["WARDS"].has(LEFT["WARDS"] + LEFT["WARDS"][:1], gateway.until)
+    gateway.kill()
+
+
+# Has a sleep of 50 milliseconds take 50 microseconds: so what is done by the minute or the hour comes a thousand times as soon.
+SOONER = r"""
+extern long syscall(long, ...);
+enum { NANOSLEEP = 35 };
+int nanosleep(const long *time, long *rest) {
+    const long sooner[2] = { 0, 50000 };
+    return (int)syscall(NANOSLEEP, time[0] || time[1] != 50000000 ? time : sooner, rest);
+}
+"""
+
+
+def ends_by_hours(gateway):
+    """A file that has messages ends after an hour, though some wait: so these don't keep later ones with them."""
+    wards, archive = Receiver(), Receiver()
+    gateway.play(WARDS=wards, ARCHIVE=archive)
+    gateway.start(env={"LD_PRELOAD": str(library_in(gateway.room, "sooner", SOONER))})
+    same("hold", 0, gateway.tell("hold", "ARCHIVE")[0])
+    since = time.monotonic()
+    gateway.answered(gateway.ask(MESSAGES), ANSWERS)
+    wards.has(LEFT["WARDS"], gateway.until)
+    same("the files after an hour", [1, 2], gateway.once([1, 2], lambda: files(gateway)))
+    same("whether it was sooner", False, time.monotonic() - since < 3.6)
+    same("go", 0, gateway.tell("go", "ARCHIVE")[0])
+    archive.has(LEFT["ARCHIVE"], gateway.until)
+    same("the files, and patients' words in them", ([3, 4], []), gateway.once(([3, 4], []), lambda: (files(gateway), held(gateway))))
+    gateway.kill()
+
+
+def kept_days(gateway):
+    """`--keep 1` keeps what was delivered for a day since it was accepted, by the times in the log: it is shown, and sent once more.
+    Where the clock is set back nothing goes earlier."""
+    gateway.play(WARDS=Receiver(), ARCHIVE=Receiver())
+    for word in "3651", "+3", "x":
+        done = subprocess.run([gateway.program, "gateway", "plan", "127.0.0.1:0", "folder", "--keep", word], cwd=gateway.room, capture_output=True, text=True, timeout=20)
+        same(f"--keep {word}", (2, "error: keep is a number from 0 to 3650\n"), (done.returncode, done.stderr))
+    later, tell = gateway.room / "later", gateway.tell
+    # (a day and an hour later, once its file is there)
+    clock = CLOCK.replace("time[0] -= 3600", "time[0] += 90000")
+    gateway.start("--keep", "1", env={"LD_PRELOAD": str(library_in(gateway.room, "clock", clock)), "BACK": str(later)})
+    count = 0
+
+    def deliver(name):
+        nonlocal count
+        count += 1
+        gateway.ask([REPORT.replace(b"LAB0007", name)])
+        for receiver in gateway.receivers.values():
+            with receiver.news:
+                receiver.news.wait_for(lambda: len(receiver.blocks) >= count, 10)
+        same("what waits", [0, 0], gateway.once([0, 0], gateway.waiting))
+        same("seal", (0, "sealed"), (lambda it: (it[0], it[1].split()[0]))(tell("seal")))
+
+    is_found = lambda *names: [tell("find", it)[0] == 0 for it in names]
+    deliver(b"LAB0001")
+    same("seal once more", 0, tell("seal")[0])
+    same("what is found, and shown", ([True], True), (is_found("LAB0001"), bool(held(gateway)) and any(it in tell("show", "4", "--values")[1] for it in SECRETS)))
+    same("resend", (0, "resent 2\n"), tell("resend", "4"))
+    count += 1
+    gateway.receivers["ARCHIVE"].has([LEFT["ARCHIVE"][0].replace(b"LAB0007", b"LAB0001")] * 2, gateway.until)
+    later.write_text("")
+    deliver(b"LAB0002")
+    same("what is found a day later", [False, True], is_found("LAB0001", "LAB0002"))
+    later.unlink()
+    deliver(b"LAB0003")
+    later.write_text("")
+    same("seal when the clock is back", 0, tell("seal")[0])
+    same("what is found then", [True, True], is_found("LAB0002", "LAB0003"))
     gateway.kill()

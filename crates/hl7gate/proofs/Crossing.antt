@@ -148,19 +148,19 @@ Hub-sync a J S R j s h r = declared_sync (Hub.the_type a J S R j s) (
     (
       search (crosses, sendable) depth 60 fits 50000,
       (
-        as_row_sync (shr_ref_field a Folder.the_row tt) (shr_sync a.mir a.lft Folder.the_row (as_row_sync Folder.the_field Folder-sync)),
+        search (crosses, sendable) depth 60 fits 50000,
         (
-          journal.the_sync J (Office.the_row J S j s) (Job.the_row J S j s) (Done.the_row J S j s) (Office-send J S j s h),
+          as_row_sync (shr_ref_field a Folder.the_row tt) (shr_sync a.mir a.lft Folder.the_row (as_row_sync Folder.the_field Folder-sync)),
           (
-            Plans-sync,
+            journal.the_sync J (Office.the_row J S j s) (Job.the_row J S j s) (Done.the_row J S j s) (Office-send J S j s h),
             (
-              as_row_sync Lines.the_field Lines-sync,
+              Plans-sync,
               (
-                as_row_sync Watch.the_field Watch-sync,
+                as_row_sync Lines.the_field Lines-sync,
                 (
-                  as_row_sync Asks.the_field Asks-sync,
+                  as_row_sync Watch.the_field Watch-sync,
                   (
-                    Count-sync,
+                    as_row_sync Asks.the_field Asks-sync,
                     (
                       Count-sync,
                       (
@@ -172,12 +172,18 @@ Hub-sync a J S R j s h r = declared_sync (Hub.the_type a J S R j s) (
                             (
                               Count-sync,
                               (
-                                Flag-sync,
+                                Count-sync,
                                 (
-                                  Flag-sync,
+                                  Count-sync,
                                   (
                                     Flag-sync,
-                                    (as_row_sync (Mutex.the_field (Option.the_row RunFault.the_row)) (search (crosses, sendable) depth 60 fits 50000), tt),
+                                    (
+                                      Flag-sync,
+                                      (
+                                        Flag-sync,
+                                        (as_row_sync (Mutex.the_field (Option.the_row RunFault.the_row)) (search (crosses, sendable) depth 60 fits 50000), tt),
+                                      ),
+                                    ),
                                   ),
                                 ),
                               ),

@@ -49,6 +49,11 @@ const ON_GATEWAY: &[(&str, &str, &str)] = &[
         "After how many seconds a receiver that takes nothing, or isn't connected, is late, from 1 to 86400 [default: 60]",
     ),
     (
+        "keep",
+        "DAYS",
+        "For how many days messages stay that all receivers have passed, from 0 to 3650 [default: 0, so they go within minutes]",
+    ),
+    (
         "take-plan",
         "",
         "Takes PLAN where another plan is in force in FOLDER",
@@ -57,6 +62,11 @@ const ON_GATEWAY: &[(&str, &str, &str)] = &[
         "keep-plan",
         "",
         "Goes on with the plan in force in FOLDER where PLAN is another",
+    ),
+    (
+        "keep-unreadable",
+        "",
+        "Keeps messages that can't be read in FOLDER/unreadable.mllp: they may be a patient's",
     ),
 ];
 
@@ -223,7 +233,7 @@ const FORMS: &[Form] = &[
     },
     Form {
         name: "tell",
-        about: "Sends a word to the gateway that works in a folder, and prints its answer: status, swap PATH, install PATH, hold NAME, go NAME, find CONTROL-ID, show PLACE, resend NAME or PLACE, replay NAME FROM TO, skip NAME, park NAME, stop",
+        about: "Sends a word to the gateway that works in a folder, and prints its answer: status, swap PATH, install PATH, hold NAME, go NAME, find CONTROL-ID, show PLACE, resend NAME or PLACE, replay NAME FROM TO, skip NAME, park NAME, seal, stop",
         words: &[
             ("FOLDER", "The folder of the gateway"),
             ("WORD", "The word"),
@@ -242,9 +252,14 @@ const FORMS: &[Form] = &[
         options: &[
             ("json", "", "Prints the status as JSON"),
             (
+                "refused",
+                "NAME",
+                "Of status: what lies refused by this receiver, and by which codes",
+            ),
+            (
                 "values",
                 "",
-                "Shows the message too: it may have a patient's values",
+                "Shows the message too, or what the receiver answered: it may have a patient's values",
             ),
         ],
     },

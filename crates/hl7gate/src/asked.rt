@@ -1,10 +1,12 @@
 //! Words that read the log, and words that wait for a forwarder: what each is asked for, and its answer.
 use crate::again::{replay, resend, resend_at};
 use crate::gateway::{Hub, Over};
+use crate::refused::lying;
+use crate::retention::seal;
 use crate::runtime::Runtime;
 use crate::store::{Unanswered, find, show};
 use gw_journal::{Naming, Storage};
-use std::alloc::AllocError;
+use std::alloc::Global;
 use std::sync::Wait;
 use std::thread;
 use std::time::Duration;
@@ -19,7 +21,6 @@ fn resend_by<J: Naming, S: Storage + Drop, R: Runtime + Wait>(
     hub: &Hub<'_, J, S, R>,
     rest: &str,
 ) -> Result<String, Unanswered> {
-    let alloc = hub.rt.alloc();
     if let Some(line) = hub.lines.named(hub.rt, rest.as_bytes()) {
         return resend(hub, &line);
     }
@@ -28,7 +29,7 @@ fn resend_by<J: Naming, S: Storage + Drop, R: Runtime + Wait>(
     match (place.parse::<u64>(), line) {
         (Ok(place), None) if name.is_empty() => resend_at(hub, place, None),
         (Ok(place), Some(line)) => resend_at(hub, place, Some(line.number)),
-        _ => Ok(format!(in alloc; "refused: no receiver of the plan has this name\n")?),
+        _ => Err(Unanswered::NoName),
     }
 }
 
@@ -37,11 +38,19 @@ fn replay_by<J: Naming, S: Storage + Drop, R: Runtime + Wait>(
     hub: &Hub<'_, J, S, R>,
     rest: &str,
 ) -> Result<String, Unanswered> {
-    let alloc = hub.rt.alloc();
     let (name, span) = rest.split_once(' ').unwrap_or((rest, ""));
     match hub.lines.named(hub.rt, name.as_bytes()) {
         Some(line) => replay(hub, &line, span.split_once(' ').unwrap_or((span, ""))),
-        None => Ok(format!(in alloc; "refused: no receiver of the plan has this name\n")?),
+        None => Err(Unanswered::NoName),
+    }
+}
+
+/// The answer once a forwarder passed a place over, or found another one first.
+fn passed_over(alloc: Global, passed: Option<u64>, is_parked: bool) -> Result<String, Unanswered> {
+    let word = if is_parked { "parked" } else { "skipped" };
+    match passed {
+        Some(place) => Ok(format!(in alloc; "{word} {place}\n")?),
+        None => Err(Unanswered::NotFirst),
     }
 }
 
@@ -50,23 +59,18 @@ fn skip_by<J: Naming, S: Storage + Drop, R: Runtime + Wait>(
     hub: &Hub<'_, J, S, R>,
     name: &str,
     is_parked: bool,
-) -> Result<String, AllocError> {
-    let alloc = hub.rt.alloc();
+) -> Result<String, Unanswered> {
     let Some(line) = hub.lines.named(hub.rt, name.as_bytes()) else {
-        return format!(in alloc; "refused: no receiver of the plan has this name\n");
+        return Err(Unanswered::NoName);
     };
     let Some(from) = hub.first_of(line.number) else {
-        return format!(in alloc; "refused: nothing waits for {name}\n");
+        return Err(Unanswered::NothingWaits);
     };
     line.set_over(hub.rt, Over { is_parked, from });
     let mut looks = 0_u64;
     for _ in hub.rt.forever() {
         if let Some(passed) = line.passed(hub.rt) {
-            return match passed {
-                Some(place) if is_parked => format!(in alloc; "parked {place}\n"),
-                Some(place) => format!(in alloc; "skipped {place}\n"),
-                None => format!(in alloc; "refused: what was first for {name} isn't any more\n"),
-            };
+            return passed_over(hub.rt.alloc(), passed, is_parked);
         }
         looks = looks.saturating_add(1);
         if hub.has_ended() || looks > LOOKS && line.take_over(hub.rt).is_some() {
@@ -74,7 +78,7 @@ fn skip_by<J: Naming, S: Storage + Drop, R: Runtime + Wait>(
         }
         thread::sleep(hub.rt, Duration::from_millis(LOOK));
     }
-    format!(in alloc; "refused: {name} can't pass it now\n")
+    Err(Unanswered::NotNow)
 }
 
 /// The answer to a line.
@@ -82,15 +86,16 @@ pub(crate) fn answer_to<J: Naming, S: Storage + Drop, R: Runtime + Wait>(
     hub: &Hub<'_, J, S, R>,
     line: &str,
 ) -> Result<String, Unanswered> {
-    let alloc = hub.rt.alloc();
     let (word, rest) = line.split_once(' ').unwrap_or((line, ""));
     let (place, values) = rest.split_once(' ').unwrap_or((rest, ""));
     match (word, place.parse::<u64>()) {
+        ("status", _) => lying(hub, values),
         ("find", _) => find(hub, rest),
-        ("skip" | "park", _) => Ok(skip_by(hub, rest, word == "park")?),
+        ("seal", _) => seal(hub),
+        ("skip" | "park", _) => skip_by(hub, rest, word == "park"),
         ("resend", _) => resend_by(hub, rest),
         ("replay", _) => replay_by(hub, rest),
         (_, Ok(place)) => show(hub, place, values == "--values"),
-        _ => Ok(format!(in alloc; "refused: a place is a number\n")?),
+        _ => Err(Unanswered::NoPlace),
     }
 }

@@ -7,10 +7,12 @@ use crate::unlisted::Unlisted;
 use clap::ArgMatches;
 use gw_diagnostics::{BreachReport, Form};
 use gw_mllp::{Decoder, FrameFault};
+use gw_profile::Profile;
 use gw_stream::RunFault;
 use std::alloc::{AllocError, Global};
 use std::io::{ErrorKind, IsTerminal, Read, Write};
 use std::rt::Files;
+use std::sync::Arc;
 
 /// How many bytes are read at once.
 const PIECE: usize = 65_536;
@@ -91,7 +93,49 @@ fn report_all<I: Read, O: Write>(
     Err(RunFault::Turns)
 }
 
-/// Reports every breach of each message of a stream by a profile, and returns the status: done where there is a message and each conforms.
+/// What is reported by a profile, before any message.
+fn reports_by(
+    alloc: Global,
+    profile: Arc<Profile>,
+    text: &[u8],
+    form: Form,
+    has_unlisted: bool,
+) -> Result<Reports, AllocError> {
+    let unlisted = if has_unlisted {
+        Some(Unlisted::new(alloc, profile.clone()?, form.has_values)?)
+    } else {
+        None
+    };
+    Ok(Reports {
+        breaches: BreachReport::new(alloc, profile, text, form)?,
+        unlisted,
+    })
+}
+
+/// Reports all messages of a stream, and what comes behind them, and returns the status: done where there is a message and each conforms.
+fn report_to_end<I: Read, O: Write, E: Write>(
+    alloc: Global,
+    reports: &mut Reports,
+    is_json: bool,
+    input: &mut I,
+    output: &mut O,
+    errors: &mut E,
+) -> Result<u8, RunFault> {
+    let reported = report_all(alloc, reports, input, output);
+    if let Err(RunFault::Memory) = reported {
+        // (the message at which it ended is counted, and not reported)
+        return Err(RunFault::Memory);
+    }
+    write_all(output, &reports.breaches.end(alloc)?)?;
+    if let Some(unlisted) = &reports.unlisted {
+        write_all(output, &unlisted.end(alloc, is_json)?)?;
+    }
+    reported?;
+    print_if_none(errors, reports.breaches.messages());
+    Ok(status_if(reports.breaches.all_conform()))
+}
+
+/// Reports every breach of each message of a stream by a profile, and returns the status.
 pub(crate) fn report<'a, R: Files + AllocGlobal, I: Read, O: Write + IsTerminal, E: Write>(
     rt: &R,
     words: &ArgMatches<'a>,
@@ -99,35 +143,23 @@ pub(crate) fn report<'a, R: Files + AllocGlobal, I: Read, O: Write + IsTerminal,
     output: &mut O,
     errors: &mut E,
 ) -> Result<u8, Ended<'a>> {
-    let alloc = rt.alloc();
     let path = words.get_str("PROFILE").unwrap_or("");
     let text = read_text(rt, path)?;
-    let profile = parse_profile(alloc, path, &text)?;
+    let profile = parse_profile(rt.alloc(), path, &text)?;
     let form = Form {
         is_json: words.get_flag("json"),
         has_values: words.get_flag("values"),
         has_colours: output.is_terminal(),
     };
-    let unlisted = if words.get_flag("unlisted") {
-        let copy = profile.clone()?;
-        Some(Unlisted::new(alloc, copy, form.has_values)?)
-    } else {
-        None
-    };
-    let mut reports = Reports {
-        breaches: BreachReport::new(alloc, profile, &text, form)?,
-        unlisted,
-    };
-    let reported = report_all(alloc, &mut reports, input, output);
-    if let Err(RunFault::Memory) = reported {
-        // (the message at which it ended is counted, and not reported)
-        return Err(Ended::Run(RunFault::Memory));
-    }
-    write_all(output, &reports.breaches.end(alloc)?)?;
-    if let Some(unlisted) = &reports.unlisted {
-        write_all(output, &unlisted.end(alloc, form.is_json)?)?;
-    }
-    reported?;
-    print_if_none(errors, reports.breaches.messages());
-    Ok(status_if(reports.breaches.all_conform()))
+    let has_unlisted = words.get_flag("unlisted");
+    let mut reports = reports_by(rt.alloc(), profile, &text, form, has_unlisted)?;
+    let status = report_to_end(
+        rt.alloc(),
+        &mut reports,
+        form.is_json,
+        input,
+        output,
+        errors,
+    )?;
+    Ok(status)
 }

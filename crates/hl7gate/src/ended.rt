@@ -12,23 +12,43 @@ pub(crate) enum Ended<'a> {
     /// The place isn't a number.
     Place,
     /// The word isn't a number from 1 to `most`.
-    Count { name: &'a str, most: u64 },
+    Count {
+        name: &'a str,
+        least: u64,
+        most: u64,
+    },
     /// The address can't be listened on.
-    Unheard { address: &'a str },
+    Unheard {
+        address: &'a str,
+    },
     /// The file can't be opened or read.
-    Unread { path: &'a str },
+    Unread {
+        path: &'a str,
+    },
     /// The text of a file isn't a profile, a map or a plan; this is printed.
-    Refused { said: String },
+    Refused {
+        said: String,
+    },
     /// The file can't be made or written.
-    Unwritten { file: String },
+    Unwritten {
+        file: String,
+    },
     /// Another process works in the folder.
-    Taken { path: &'a str },
+    Taken {
+        path: &'a str,
+    },
     /// No gateway answers in the folder.
-    Unanswered { path: &'a str },
+    Unanswered {
+        path: &'a str,
+    },
     /// The log of a folder can't be read, or is damaged; this is printed.
-    Unlisted { said: String },
+    Unlisted {
+        said: String,
+    },
     /// Standard input isn't a message.
-    Message { fault: ReadFault },
+    Message {
+        fault: ReadFault,
+    },
     /// The message breaks its profile.
     Breaks(Breach),
     /// The run ended early.

@@ -79,8 +79,8 @@ impl Ears {
         }
     }
 
-    // Takes the next block that came.
-    fn next_block(&mut self) -> Option<Vec<u8>> {
+    /// Takes the next block that came.
+    pub(crate) fn next_block(&mut self) -> Option<Vec<u8>> {
         let block = self.decoder.next_block()?;
         self.taken = self.taken.saturating_add(1);
         self.is_loose = false;

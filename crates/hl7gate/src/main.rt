@@ -4,9 +4,11 @@
 #![tactic(auto)]
 
 mod again;
+mod answers;
 mod arguments;
 mod asked;
 mod breaches;
+mod came;
 mod contents;
 mod doors;
 mod ended;
@@ -20,12 +22,15 @@ mod heard;
 mod identity;
 mod listing;
 mod maps;
+mod noted;
 mod outcome;
 mod plans;
 mod program;
 mod progress;
 mod refusals;
+mod refused;
 mod report;
+mod retention;
 mod runtime;
 mod sample;
 mod serve;

@@ -106,8 +106,8 @@ pub(crate) fn tell<E: Write>(errors: &mut E, ended: &Ended<'_>) -> u8 {
             let _ = writeln!(errors, "error: the value of '--place' is a number");
             USAGE
         }
-        Ended::Count { name, most } => {
-            let _ = writeln!(errors, "error: {name} is a number from 1 to {most}");
+        Ended::Count { name, least, most } => {
+            let _ = writeln!(errors, "error: {name} is a number from {least} to {most}");
             USAGE
         }
         Ended::Unheard { address } => {

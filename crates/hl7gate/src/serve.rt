@@ -27,33 +27,39 @@ const MOST: u64 = 1_000;
 /// The most seconds after which a receiver is late: a day.
 const LATEST: u64 = 86_400;
 
-/// The number that a word gives, or else this one: from 1 to `most`, in decimal digits.
+/// The most days for which messages stay that all receivers have passed: ten years.
+const DAYS: u64 = 3_650;
+
+/// The number that a word gives, or else this one: from `least` to `most`, in decimal digits.
 fn count_or<'a>(
     words: &ArgMatches<'a>,
     name: &'static str,
     other: &'static str,
-    most: u64,
+    (least, most): (u64, u64),
 ) -> Result<u64, Ended<'a>> {
     let word = words.get_str(name).unwrap_or(other);
     // (a number that is parsed may have a sign)
     match word.parse::<u64>() {
-        Ok(number) if !word.starts_with('+') && 1 <= number && number <= most => Ok(number),
-        _ => Err(Ended::Count { name, most }),
+        Ok(number) if !word.starts_with('+') && least <= number && number <= most => Ok(number),
+        _ => Err(Ended::Count { name, least, most }),
     }
 }
 
-/// The limits of a gateway: how many connections are open at once, and after how many seconds a receiver is late.
+/// The limits of a gateway: how many connections are open at once, after how many seconds a receiver is late,
+/// and for how many days messages stay that all receivers have passed.
 #[derive(Clone, Copy)]
 pub(crate) struct Limits {
     pub(crate) connections: u64,
     pub(crate) late: u64,
+    pub(crate) days: u64,
 }
 
-/// The limits that the words give, or else 1,000 connections and a minute.
+/// The limits that the words give, or else 1,000 connections, a minute and no day.
 pub(crate) fn limits_of<'a>(words: &ArgMatches<'a>) -> Result<Limits, Ended<'a>> {
     Ok(Limits {
-        connections: count_or(words, "connections", "1000", MOST)?,
-        late: count_or(words, "late", "60", LATEST)?,
+        connections: count_or(words, "connections", "1000", (1, MOST))?,
+        late: count_or(words, "late", "60", (1, LATEST))?,
+        days: count_or(words, "keep", "0", (0, DAYS))?,
     })
 }
 
@@ -123,8 +129,8 @@ fn serve<
 >(rt: &R, words: &ArgMatches<'a>, paths: I) -> Result<Served, Ended<'a>> {
     // (neither word may be left out)
     let sizes = Sizes {
-        sessions: count_or(words, "SESSIONS", "", MOST)?,
-        workers: count_or(words, "WORKERS", "", MOST)?,
+        sessions: count_or(words, "SESSIONS", "", (1, MOST))?,
+        workers: count_or(words, "WORKERS", "", (1, MOST))?,
     };
     let Some(start) = stamp_of(rt, None) else {
         return Err(Ended::Stamp);

@@ -1,25 +1,87 @@
 //! Words that read the log: messages that are looked for, and messages that are due once more.
 use crate::gateway::Hub;
+use crate::noted::numbered;
 use crate::runtime::Runtime;
 use gw_civil::utc_text;
 use gw_delivery::{Fate, Filed, PageFault, Pages, Search, Stood, Wanted};
 use gw_due::{Event, read};
 use gw_folder::FolderView;
 use gw_journal::{Naming, Storage};
-use gw_ledger::ScanFault;
+use gw_ledger::{LedgerFault, ScanFault};
 use std::alloc::{AllocError, AllocFailed, Global};
+use std::fmt;
+use std::fmt::{Display, Formatter};
 use std::sync::Wait;
 
 /// What is printed for a time that no calendar has.
-const NO_TIME: [u8; 27] = *b"0000-00-00T00:00:00.000000Z";
+pub(crate) const NO_TIME: [u8; 27] = *b"0000-00-00T00:00:00.000000Z";
 
-/// Why a word isn't answered.
+/// Why a word isn't answered as it asks.
 #[derive(Clone, Copy)]
 pub(crate) enum Unanswered {
     /// The log can't be read on.
     Page(PageFault),
+    /// The log doesn't take it, after this number of messages.
+    Put { fault: LedgerFault, after: usize },
+    /// What was put can't be brought to the disk.
+    Disk,
     /// The gateway ends.
     Ended,
+    /// The disk is short of room, or the log takes nothing.
+    Short,
+    /// The log keeps places from this one on.
+    Gone { first: u64 },
+    /// No message was accepted at this place.
+    NoMessage { place: u64 },
+    /// No accepted message has this control id.
+    NoControl,
+    /// The log doesn't keep the plan of the message.
+    NoPlan,
+    /// The message isn't routed to this receiver.
+    NotRouted,
+    /// No receiver has this name.
+    NoName,
+    /// Nothing waits for this receiver.
+    NothingWaits,
+    /// What was first for this receiver isn't any more.
+    NotFirst,
+    /// Its forwarder can't pass it over now.
+    NotNow,
+    /// This is no time.
+    NoTime,
+    /// This is no place.
+    NoPlace,
+}
+
+impl Display for Unanswered {
+    fn fmt<W: fmt::Write>(&self, f: &mut Formatter<W>) -> fmt::Result {
+        let words = match self {
+            Unanswered::Page(fault) => return write!(f, "{fault}"),
+            Unanswered::Put { fault, after: 0 } => return write!(f, "{fault}"),
+            Unanswered::Put { fault, after } => {
+                return write!(f, "{fault}\n{after} were due once more before");
+            }
+            Unanswered::Gone { first } => {
+                return write!(f, "the log keeps places from {first} on");
+            }
+            Unanswered::NoMessage { place } => {
+                return write!(f, "the log has no accepted message at place {place}");
+            }
+            Unanswered::Disk => "the disk has failed",
+            Unanswered::Ended => "the gateway ends",
+            Unanswered::Short => "the log takes nothing now",
+            Unanswered::NoControl => "no accepted message of the log has this control id",
+            Unanswered::NoPlan => "the log doesn't keep its plan",
+            Unanswered::NotRouted => "the message has no such receiver",
+            Unanswered::NoName => "no receiver of the plan has this name",
+            Unanswered::NothingWaits => "nothing waits for this receiver",
+            Unanswered::NotFirst => "what was first for this receiver isn't any more",
+            Unanswered::NotNow => "this receiver can't pass it over now",
+            Unanswered::NoTime => "a time is YYYYMMDDHHMMSS, in UTC",
+            Unanswered::NoPlace => "a place is a number",
+        };
+        f.write_str(words)
+    }
 }
 
 impl From<PageFault> for Unanswered {
@@ -91,7 +153,7 @@ fn receiver_of<J: Naming, S: Storage + Drop, R: Runtime + Wait>(
     let alloc = hub.rt.alloc();
     let office = hub.journal.lock(hub.rt);
     let receivers = office.ledger.state().receivers();
-    match receivers.iter().find(|one| one.number() == number) {
+    match numbered(receivers, number) {
         Some(one) => {
             let name = one.name().escape_ascii();
             format!(in alloc; "{name} ({number})")
@@ -117,6 +179,18 @@ fn line_of(alloc: Global, name: &str, place: u64, stood: &Stood) -> Result<Strin
     }
 }
 
+/// Adds the line that says how a receiver stands with the message at a place.
+fn add_stood<J: Naming, S: Storage + Drop, R: Runtime + Wait>(
+    hub: &Hub<'_, J, S, R>,
+    text: &mut String,
+    place: u64,
+    stood: &Stood,
+) -> Result<(), AllocError> {
+    let name = receiver_of(hub, stood.receiver)?;
+    text.push_str(line_of(hub.rt.alloc(), name.as_str(), place, stood)?.as_str())?;
+    Ok(())
+}
+
 /// Adds the lines of a message: when it was accepted, and how each receiver stands with it.
 fn add_lines<J: Naming, S: Storage + Drop, R: Runtime + Wait>(
     hub: &Hub<'_, J, S, R>,
@@ -130,8 +204,7 @@ fn add_lines<J: Naming, S: Storage + Drop, R: Runtime + Wait>(
     let line = format!(in alloc; "{place} {time} accepted {number}; {size} bytes\n")?;
     text.push_str(line.as_str())?;
     for stood in &filed.to {
-        let name = receiver_of(hub, stood.receiver)?;
-        text.push_str(line_of(alloc, name.as_str(), place, stood)?.as_str())?;
+        add_stood(hub, text, place, stood)?;
     }
     Ok(())
 }
@@ -153,16 +226,17 @@ pub(crate) fn find<J: Naming, S: Storage + Drop, R: Runtime + Wait>(
         add_lines(hub, &mut text, filed)?;
     }
     if text.is_empty() {
-        return Ok(format!(in alloc;
-            "refused: no accepted message of the log has this control id\n"
-        )?);
+        return Err(Unanswered::NoControl);
     }
     Ok(text)
 }
 
-/// The bytes of a message, a line for each segment. What isn't printable ASCII is escaped.
-fn segments_of(alloc: Global, bytes: &[u8]) -> Result<String, AllocError> {
-    let mut text = String::new(alloc);
+/// Adds the bytes of a message, a line for each segment. What isn't printable ASCII is escaped.
+pub(crate) fn add_segments(
+    alloc: Global,
+    text: &mut String,
+    bytes: &[u8],
+) -> Result<(), AllocError> {
     let mut rest = bytes;
     for _ in 0..bytes.len() {
         if rest.is_empty() {
@@ -176,20 +250,21 @@ fn segments_of(alloc: Global, bytes: &[u8]) -> Result<String, AllocError> {
         text.push_str(format!(in alloc; "{segment}\n")?.as_str())?;
         rest = rest.get(end.saturating_add(1)..).unwrap_or(&[]);
     }
-    Ok(text)
+    Ok(())
 }
 
-/// The bytes of the message that was accepted at a place, a line for each segment.
-fn values_at<J: Naming, S: Storage + Drop, R: Runtime + Wait>(
+/// Adds the bytes of the message that was accepted at a place, a line for each segment.
+fn add_values<J: Naming, S: Storage + Drop, R: Runtime + Wait>(
     hub: &Hub<'_, J, S, R>,
+    text: &mut String,
     place: u64,
-) -> Result<String, Unanswered> {
+) -> Result<(), Unanswered> {
     let alloc = hub.rt.alloc();
     let mut pages = Pages::new(alloc, view_of(hub)?);
     let bytes = pages.find(hub.tail(), place)?;
     match read(alloc, &bytes) {
         Ok(entry) => match entry.event {
-            Event::Accepted { bytes, .. } => Ok(segments_of(alloc, bytes)?),
+            Event::Accepted { bytes, .. } => Ok(add_segments(alloc, text, bytes)?),
             _ => Err(Unanswered::Page(PageFault::Message { place })),
         },
         Err(_) => Err(Unanswered::Page(PageFault::Message { place })),
@@ -209,12 +284,10 @@ pub(crate) fn show<J: Naming, S: Storage + Drop, R: Runtime + Wait>(
         add_lines(hub, &mut text, filed)?;
     }
     if text.is_empty() {
-        return Ok(format!(in alloc;
-            "refused: the log has no accepted message at place {place}\n"
-        )?);
+        return Err(Unanswered::NoMessage { place });
     }
     if has_values {
-        text.push_str(values_at(hub, place)?.as_str())?;
+        add_values(hub, &mut text, place)?;
     }
     Ok(text)
 }

@@ -78,6 +78,17 @@ pub(crate) fn lines_of<R: AllocGlobal>(rt: &R, path: &str, why: &Unswapped<'_>) 
     lines
 }
 
+/// The answer where a plan isn't read.
+pub(crate) fn unread_answer<R: AllocGlobal>(
+    rt: &R,
+    path: &str,
+    ended: Ended<'_>,
+) -> Result<String, AllocError> {
+    let lines = lines_of(rt, path, &Unswapped::Text(ended));
+    let lines = String::from_utf8(lines).unwrap_or(String::new(rt.alloc()));
+    format!(in rt.alloc(); "refused\n{lines}")
+}
+
 /// Swaps in the plan of a file, and gives its version, or the lines that say why it isn't swapped in.
 /// Where the plan has other receivers, they name the word that takes it.
 pub(crate) fn swap_or_lines<L: Ledger, R: Wait + Files + Eprint + AllocGlobal>(

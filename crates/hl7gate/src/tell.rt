@@ -4,25 +4,31 @@ use crate::gateway::control_path;
 use crate::report::{DONE, REFUSED, write_all};
 use clap::ArgMatches;
 use gw_stream::RunFault;
-use std::alloc::{AllocError, Global};
+use std::alloc::AllocError;
 use std::io;
 use std::io::{ErrorKind, Read, Write};
 use std::net::{Net, Shutdown};
 use std::os::unix::net::UnixStream;
 
-/// The words behind the first.
-const REST: &[&str] = &["ARGUMENT", "NEXT", "LAST"];
+/// The words behind the first, and what stands before each.
+const REST: &[(&str, &str)] = &[
+    (" --refused ", "refused"),
+    (" ", "ARGUMENT"),
+    (" ", "NEXT"),
+    (" ", "LAST"),
+];
 
-/// The line that the words are.
-fn line_of(alloc: Global, words: &ArgMatches<'_>) -> Result<String, AllocError> {
-    let word = words.get_str("WORD").unwrap_or("");
+/// Adds the line that the words are.
+fn add_line(line: &mut String, words: &ArgMatches<'_>) -> Result<(), AllocError> {
+    line.push_str(words.get_str("WORD").unwrap_or(""))?;
     if words.get_flag("json") {
-        return format!(in alloc; "{word} --json\n");
+        line.push_str(" --json\n")?;
+        return Ok(());
     }
-    let mut line = format!(in alloc; "{word}")?;
-    for name in REST {
-        if let Some(argument) = words.get_str(name) {
-            line.push_str(format!(in alloc; " {argument}")?.as_str())?;
+    for (before, name) in REST {
+        if let Some(word) = words.get_str(*name) {
+            line.push_str(*before)?;
+            line.push_str(word)?;
         }
     }
     let end = if words.get_flag("values") {
@@ -31,7 +37,7 @@ fn line_of(alloc: Global, words: &ArgMatches<'_>) -> Result<String, AllocError> 
         "\n"
     };
     line.push_str(end)?;
-    Ok(line)
+    Ok(())
 }
 
 /// What the gateway at this socket answers.
@@ -44,6 +50,18 @@ fn asked<R: Net + AllocGlobal>(rt: &R, path: &str, line: &str) -> io::Result<Vec
     Ok(answer)
 }
 
+/// What the gateway of a folder answers to the words.
+fn answer_of<R: Net + AllocGlobal>(
+    rt: &R,
+    folder: &str,
+    words: &ArgMatches<'_>,
+) -> io::Result<Vec<u8>> {
+    let path = control_path(rt.alloc(), folder)?;
+    let mut line = String::new(rt.alloc());
+    add_line(&mut line, words)?;
+    asked(rt, &path, &line)
+}
+
 /// Sends the words to the gateway of FOLDER, prints what it answers, and gives the status.
 pub(crate) fn send<'a, R: Net + AllocGlobal, O: Write>(
     rt: &R,
@@ -51,9 +69,7 @@ pub(crate) fn send<'a, R: Net + AllocGlobal, O: Write>(
     output: &mut O,
 ) -> Result<u8, Ended<'a>> {
     let folder = words.get_str("FOLDER").unwrap_or("");
-    let path = control_path(rt.alloc(), folder)?;
-    let line = line_of(rt.alloc(), words)?;
-    let answer = match asked(rt, &path, &line) {
+    let answer = match answer_of(rt, folder, words) {
         Ok(answer) => answer,
         Err(error) if error.kind() == ErrorKind::OutOfMemory => {
             return Err(Ended::Run(RunFault::Memory));

@@ -14,6 +14,7 @@ use crate::gateway::plans::begin_lines;
 use crate::gateway::resend::resend_all;
 use crate::gateway::senders::{attend, next_sender};
 use crate::gateway::{control, opening};
+use crate::noted::print_waiting;
 use crate::plans::read_plan;
 use crate::report::DONE;
 use crate::runtime::Runtime;
@@ -30,6 +31,7 @@ use gw_log::Disk;
 use gw_opening::{Begun, Found};
 use gw_plan::Plan;
 use gw_stream::RunFault;
+use std::alloc::Global;
 use std::io::Eprint;
 use std::marker::Brand;
 use std::net::{Net, TcpListener, TcpStream};
@@ -69,7 +71,7 @@ fn look_at_disk<J: Naming, S: Storage + Drop, R: Wait + Clock + Eprint>(hub: &Hu
 
 /// Has the log of refusals go on in a new file where it is long.
 fn look_at_log<J: Naming, S: Storage + Drop, R: Runtime + Wait>(hub: &Hub<'_, J, S, R>) {
-    if let Ok(true) = hub.folder.turn_log(hub.rt) {
+    if let Ok(true) = hub.folder.turn_logs(hub.rt) {
         let _ = eprintln!(hub.rt;
             "{}/refusals.log had 64 MB: it is refusals.log.1 now",
             hub.folder.path
@@ -164,22 +166,11 @@ fn go_on<
     );
 }
 
-/// What is counted of receivers before the start is printed: what waits, and what was refused.
-fn print_waiting<J: Naming, S: Storage + Drop, R: Wait + Eprint>(hub: &Hub<'_, J, S, R>) {
-    let office = hub.journal.lock(hub.rt);
-    for receiver in office.ledger.state().receivers() {
-        let (left, refused) = (receiver.left(), receiver.refused());
-        if left > 0 {
-            let name = receiver.name().escape_ascii();
-            let _ = eprintln!(hub.rt;
-                "receiver {name}: {left} messages wait in {}",
-                hub.folder.path
-            );
-        }
-        if refused > 0 {
-            let name = receiver.name().escape_ascii();
-            let _ = eprintln!(hub.rt; "receiver {name} has refused {refused} messages so far");
-        }
+/// That the log of a folder can't be written.
+fn unwritten<'a>(alloc: Global, folder: &Folder) -> Ended<'a> {
+    match String::from_str(alloc, &folder.path) {
+        Ok(file) => Ended::Unwritten { file },
+        Err(_) => Ended::Run(RunFault::Memory),
     }
 }
 
@@ -189,23 +180,53 @@ fn begin<'f, 'a, J: Naming, S: Storage + Drop, R: Runtime + Wait>(
     ledger: Ledger<J, S, ByPlans>,
     plan: Arc<Plan>,
     start: Stamp,
-    late: u64,
+    limits: Limits,
     folder: &'f Folder,
 ) -> Result<Hub<'f, J, S, R>, Ended<'a>> {
     let alloc = rt.alloc();
-    let file = String::from_str(alloc, &folder.path)?;
-    let begun = Office::begin(alloc, ledger, microseconds(rt), plan.clone()?);
-    let (office, ticket) = match begun {
+    let (office, ticket) = match Office::begin(alloc, ledger, microseconds(rt), plan.clone()?) {
         Ok(begun) => begun,
         Err(PutFault::Memory) => return Err(Ended::Run(RunFault::Memory)),
-        Err(_) => return Err(Ended::Unwritten { file }),
+        Err(_) => return Err(unwritten(alloc, folder)),
     };
-    let hub = Hub::new(rt, alloc, start, late, folder, Journal::new(alloc, office))?;
+    let hub = Hub::new(
+        rt,
+        alloc,
+        start,
+        limits,
+        folder,
+        Journal::new(alloc, office),
+    )?;
     if hub.journal.settle(rt, &ticket).is_err() {
-        return Err(Ended::Unwritten { file });
+        return Err(unwritten(alloc, folder));
     }
     hub.plans.keep(rt, plan)?;
     Ok(hub)
+}
+
+/// Listens where the words say, goes on until it is stopped, and answers the status.
+fn work<
+    'a,
+    J: Naming + Send + Sync,
+    S: Storage + Drop + Send + Sync,
+    R: Runtime + Threads + Wait + Net<Stream = TcpStream, Listener = TcpListener>,
+>(hub: &Hub<'_, J, S, R>, words: &ArgMatches<'a>, most: u64) -> Result<u8, Ended<'a>> {
+    let path = words.get_str("FOLDER").unwrap_or("");
+    begin_lines(hub)?;
+    look_at_disk(hub);
+    let control = control::listen(hub.rt, path)?;
+    let senders = listen(hub.rt, words)?;
+    let pages = Pages::listen(hub.rt, words)?;
+    go_on(hub, &control, senders, pages.as_ref(), most);
+    let Some(fault) = hub.fault() else {
+        return Ok(DONE);
+    };
+    if fault == RunFault::Write {
+        let _ = eprintln!(hub.rt;
+            "{path}: the log can't be written any more: look at its disk, and whether it is where it was"
+        );
+    }
+    Err(Ended::Run(fault))
 }
 
 /// Keeps what it accepts in the log of a ledger, and answers the status.
@@ -223,24 +244,10 @@ fn keep<
     ledger: Ledger<J, Stored<Checkpoints, D>, ByPlans>,
 ) -> Result<u8, Ended<'a>> {
     let path = words.get_str("FOLDER").unwrap_or("");
-    let folder = Folder::open(rt, path)?;
-    let hub = begin(rt, ledger, plan, start, limits.late, &folder)?;
+    let folder = Folder::open(rt, path, words.get_flag("keep-unreadable"))?;
+    let hub = begin(rt, ledger, plan, start, limits, &folder)?;
     print_waiting(&hub);
-    begin_lines(&hub)?;
-    look_at_disk(&hub);
-    let control = control::listen(rt, path)?;
-    let senders = listen(rt, words)?;
-    let pages = Pages::listen(rt, words)?;
-    go_on(&hub, &control, senders, pages.as_ref(), limits.connections);
-    let Some(fault) = hub.fault() else {
-        return Ok(DONE);
-    };
-    if fault == RunFault::Write {
-        let _ = eprintln!(rt;
-            "{path}: the log can't be written any more: look at its disk, and whether it is where it was"
-        );
-    }
-    Err(Ended::Run(fault))
+    work(&hub, words, limits.connections)
 }
 
 /// The same of a log that was opened.

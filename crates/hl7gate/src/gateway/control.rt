@@ -27,7 +27,7 @@ const PATIENCE: u64 = 5;
 
 /// Which words there are.
 const WORDS: &str =
-    "status [--json], swap PATH, install PATH, hold NAME, go NAME, find CONTROL-ID, show PLACE [--values], resend NAME, resend PLACE [NAME], replay NAME FROM TO, skip NAME, park NAME, stop";
+    "status [--json], status --refused NAME [--values], swap PATH, install PATH, hold NAME, go NAME, find CONTROL-ID, show PLACE [--values], resend NAME, resend PLACE [NAME], replay NAME FROM TO, skip NAME, park NAME, seal, stop";
 
 /// The path of a folder's socket.
 pub(crate) fn control_path(alloc: Global, folder: &str) -> Result<String, AllocError> {

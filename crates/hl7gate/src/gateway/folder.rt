@@ -1,5 +1,6 @@
 //! The folder of a gateway: its log, and what stands beside it.
 use crate::ended::Ended;
+use gw_mllp::{is_content, write_block};
 use gw_stream::RunFault;
 use std::alloc::Global;
 use std::fs::{File, OpenOptions, metadata};
@@ -25,6 +26,7 @@ const PAGE: &[u8] =
 N.segment     the log, in numbered files; `hl7gate log FOLDER` lists it. Don't edit them: a changed byte is damage
 refusals.log  a line for each message that was answered AE or AR, and for each receiver whose first waits for long (--late).
               At 64 MB it is refusals.log.1, and a new one is begun
+unreadable.mllp  with --keep-unreadable: messages that can't be read, in their frames. At 64 MB it is unreadable.mllp.1
 reserve       room on the disk for what was accepted, used when the disk is full
 control       the socket of `hl7gate tell FOLDER`
 
@@ -37,7 +39,13 @@ pub(crate) struct Folder {
     pub(crate) path: String,
     reserve: File,
     log: Mutex<File>,
+    unread: Option<Mutex<File>>,
 }
+
+/// The files that are added to, and are begun anew where they are long.
+const LOG: &str = "refusals.log";
+
+const UNREAD: &str = "unreadable.mllp";
 
 /// What came of a call on a file of the folder, or that the file can't be made or written.
 pub(crate) fn or_unwritten<'a, T>(
@@ -124,16 +132,23 @@ impl Folder {
     pub(crate) fn open<'a, R: Files<File = File> + AllocGlobal>(
         rt: &R,
         path: &'a str,
+        keeps_unread: bool,
     ) -> Result<Self, Ended<'a>> {
         let alloc = rt.alloc();
         let page = format!(in alloc; "{path}/README")?;
         or_unwritten(alloc, &page, fs::write(rt, page.as_str(), PAGE))?;
         let reserve = open_file(rt, path, "reserve", false)?;
-        let log = open_file(rt, path, "refusals.log", true)?;
+        let log = open_file(rt, path, LOG, true)?;
+        let unread = if keeps_unread {
+            Some(Mutex::new(open_file(rt, path, UNREAD, true)?))
+        } else {
+            None
+        };
         Ok(Folder {
             path: String::from_str(alloc, path)?,
             reserve,
             log: Mutex::new(log),
+            unread,
         })
     }
 
@@ -143,21 +158,45 @@ impl Folder {
         let _ = self.log.lock(rt).write_all_at(line, 0);
     }
 
-    /// Begins a new log of refusals where the one is long. That is `refusals.log.1` then.
-    pub(crate) fn turn_log<'a, R: Wait + Files<File = File> + AllocGlobal>(
+    /// Keeps a message that can't be read, as a block (MLLP Release 1), where that is asked for.
+    pub(crate) fn keep_unread<R: Wait>(&self, rt: &R, alloc: Global, message: &[u8]) {
+        let mut block = Vec::new(alloc);
+        if let Some(unread) = &self.unread
+            && is_content(message)
+            && write_block(&mut block, message).is_ok()
+        {
+            let _ = unread.lock(rt).write_all_at(&block, 0);
+        }
+    }
+
+    // Begins a file anew where it is long. It gets the name behind it then.
+    fn turn<'a, R: Wait + Files<File = File> + AllocGlobal>(
         &self,
         rt: &R,
+        file: &Mutex<File>,
+        name: &str,
     ) -> Result<bool, Ended<'a>> {
-        match self.log.lock(rt).metadata() {
+        match file.lock(rt).metadata() {
             Ok(of) if of.len() >= LONG => {}
             _ => return Ok(false),
         }
-        let path = format!(in rt.alloc(); "{}/refusals.log", self.path)?;
+        let path = format!(in rt.alloc(); "{}/{name}", self.path)?;
         let long = format!(in rt.alloc(); "{path}.1")?;
         let is_moved = fs::rename(rt, path.as_str(), long.as_str()).is_ok();
-        let log = open_file(rt, &self.path, "refusals.log", true)?;
-        *self.log.lock(rt) = log;
+        let anew = open_file(rt, &self.path, name, true)?;
+        *file.lock(rt) = anew;
         Ok(is_moved)
+    }
+
+    /// Begins a new log of refusals where the one is long. That is `refusals.log.1` then. So it is with the messages that can't be read.
+    pub(crate) fn turn_logs<'a, R: Wait + Files<File = File> + AllocGlobal>(
+        &self,
+        rt: &R,
+    ) -> Result<bool, Ended<'a>> {
+        if let Some(unread) = &self.unread {
+            let _ = self.turn(rt, unread, UNREAD)?;
+        }
+        self.turn(rt, &self.log, LOG)
     }
 
     /// What room the disk has. Where the reserve was used it is filled again, if there is room for it.

@@ -5,6 +5,7 @@ use crate::gateway::hub::Hub;
 use crate::gateway::lines::Line;
 use crate::gateway::links::{Answers, Records, connect};
 use crate::heard::{Ears, Unacknowledged};
+use crate::noted::address_in;
 use crate::runtime::Runtime;
 use crate::sockets::is_ended;
 use crate::stamps::Utc;
@@ -37,7 +38,8 @@ struct Here<'a, 'f, J: Naming, S: Storage + Drop, R: Wait> {
     ears: Cell<Ears>,
 }
 
-impl<J: Naming, S: Storage + Drop, R: Wait + Clock + Eprint> Forwarded for Here<'_, '_, J, S, R> {
+impl<J: Naming, S: Storage + Drop, R: Wait + AllocGlobal + Clock + Eprint> Forwarded
+    for Here<'_, '_, J, S, R> {
     fn has_ended(&self) -> bool {
         self.is_over.get() || self.hub.has_ended() || self.line.stand(self.hub.rt).over.is_some()
     }
@@ -59,8 +61,18 @@ impl<J: Naming, S: Storage + Drop, R: Wait + Clock + Eprint> Forwarded for Here<
         self.stream.set(stream);
     }
 
-    fn count(&self, ack: Ack) {
-        self.line.count(self.hub.rt, ack);
+    // (of each message that is acknowledged one block is taken)
+    fn count(&self, ack: Ack) -> Vec<u8> {
+        let alloc = self.hub.rt.alloc();
+        let mut ears = self.ears.replace(Ears::new(alloc));
+        let block = ears.next_block();
+        self.ears.set(ears);
+        let answer = match block {
+            Some(block) => block,
+            None => Vec::new(alloc),
+        };
+        self.line.count(self.hub.rt, ack, &answer);
+        answer
     }
 
     // (a receiver that the plan lacks is sent what is left, and then no more)
@@ -107,12 +119,13 @@ impl<J: Naming, S: Storage + Drop, R: Wait + Clock + Eprint> Forwarded for Here<
     }
 }
 
-/// A forwarder: of whom, and how many seconds it waits before the next try.
+/// A forwarder: of whom, how many seconds it waits before the next try, and whether the last one failed.
 #[derive(Drop)]
 struct Forwarder<'a, 'f, J: Naming, S: Storage + Drop, R: Wait> {
     here: &'a Here<'a, 'f, J, S, R>,
     sent: &'a Cell<bool>,
     pause: u64,
+    is_down: bool,
 }
 
 impl<
@@ -138,37 +151,42 @@ impl<
         let is_planned = line.stand(hub.rt).is_planned;
         let office = hub.journal.lock(hub.rt);
         let receivers = office.ledger.state().receivers();
-        match receivers.iter().find(|r| r.number() == line.number) {
-            Some(receiver) if is_planned || receiver.left() > 0 => {
-                Ok(Some(Vec::from_slice(hub.rt.alloc(), receiver.address())?))
-            }
-            _ => Ok(None),
-        }
+        address_in(hub.rt.alloc(), receivers, line.number, is_planned)
+    }
+
+    // Sends what waits over this connection, as far as that goes. What came of it, and whether it can't be written any more.
+    fn send_once<O: Due>(
+        &self,
+        outbox: &mut O,
+        stream: &TcpStream,
+    ) -> (Result<Ended, ForwardFault>, bool) {
+        let Here { hub, line, .. } = self.here;
+        let alloc = hub.rt.alloc();
+        self.here.ears.set(Ears::new(alloc));
+        let mut reader = Reads::new(Answers {
+            hub,
+            line,
+            stream,
+            alloc,
+            ears: &self.here.ears,
+        });
+        let mut writer = Writes::new(Records {
+            hub,
+            line,
+            stream,
+            sent: self.sent,
+            waited: &self.here.waited,
+            is_new: true,
+        });
+        let ended = outbox.send(alloc, &mut reader, &mut writer);
+        (ended, writer.failed())
     }
 
     // Sends what waits over this connection, until it ends. False: nothing more is sent.
     fn send_over<O: Due>(&mut self, outbox: &mut O, stream: &TcpStream) -> bool {
-        let Here { hub, line, .. } = self.here;
-        let (rt, sent) = (hub.rt, self.sent);
-        for _ in rt.forever() {
+        for _ in self.here.hub.rt.forever() {
             let before = outbox.count();
-            self.here.ears.set(Ears::new(rt.alloc()));
-            let mut reader = Reads::new(Answers {
-                hub,
-                line,
-                stream,
-                alloc: rt.alloc(),
-                ears: &self.here.ears,
-            });
-            let mut writer = Writes::new(Records {
-                hub,
-                line,
-                stream,
-                sent,
-                waited: &self.here.waited,
-                is_new: true,
-            });
-            let ended = outbox.send(rt.alloc(), &mut reader, &mut writer);
+            let (ended, has_failed) = self.send_once(outbox, stream);
             let taken = outbox.count().saturating_sub(before);
             if taken > 0 {
                 self.pause = 0;
@@ -185,12 +203,19 @@ impl<
                     Err(_) => return self.ended_by(ForwardFault::Disk, None),
                 },
                 Err(fault) => {
-                    let heard = if writer.failed() { None } else { Some(taken) };
+                    let heard = if has_failed { None } else { Some(taken) };
                     return self.ended_by(fault, heard);
                 }
             }
         }
         unreachable!()
+    }
+
+    // Reports that a connection ended, and why.
+    fn say(&self, said: &str, why: &str) {
+        let Here { hub, line, .. } = self.here;
+        let name = line.name.escape_ascii();
+        let _ = eprintln!(hub.rt; "receiver {name} {said}{why}; it is connected anew");
     }
 
     // Nothing more is sent over a connection, though nothing failed. False: nor over another.
@@ -201,8 +226,7 @@ impl<
         }
         let stand = line.stand(hub.rt);
         if stand.is_planned && stand.over.is_none() {
-            let name = line.name.escape_ascii();
-            let _ = eprintln!(hub.rt; "receiver {name} ended its connection; it is connected anew");
+            self.say("ended its connection", "");
         }
         self.pause = self.pause.min(1);
         true
@@ -222,24 +246,24 @@ impl<
     // A connection, or what waits for its receiver, has failed. False: nothing more is sent.
     fn ended_by(&mut self, fault: ForwardFault, taken: Option<u64>) -> bool {
         let Here { hub, line, .. } = self.here;
-        let name = line.name.escape_ascii();
         if hub.has_ended() {
             return false;
         }
-        let _ = match fault {
+        match fault {
             ForwardFault::Disk => {
                 hub.fail(RunFault::Write);
                 return false;
             }
-            ForwardFault::Memory => eprintln!(hub.rt; "receiver {name}: out of memory; it goes on"),
+            ForwardFault::Memory => {
+                let name = line.name.escape_ascii();
+                let _ = eprintln!(hub.rt; "receiver {name}: out of memory; it goes on");
+            }
             _ if self.sent.get() => {
                 let words = self.why(taken).words();
-                eprintln!(hub.rt;
-                    "receiver {name} did not acknowledge a message: {words}; it is connected anew"
-                )
+                self.say("did not acknowledge a message: ", words);
             }
-            _ => eprintln!(hub.rt; "receiver {name} ended its connection; it is connected anew"),
-        };
+            _ => self.say("ended its connection", ""),
+        }
         true
     }
 
@@ -279,39 +303,52 @@ impl<
         line.set_passed(hub.rt, place);
     }
 
+    // Reports whether the receiver is connected. That it isn't is reported once.
+    fn tell(&mut self, address: &[u8], is_connected: bool) {
+        let Here { hub, line, .. } = self.here;
+        let (name, at) = (line.name.escape_ascii(), address.escape_ascii());
+        if is_connected {
+            let _ = eprintln!(hub.rt; "receiver {name} at {at} connected");
+        } else if !self.is_down {
+            let _ = eprintln!(hub.rt;
+                "receiver {name} can't be connected; it is tried until it is\n{at}: can't be connected"
+            );
+        }
+        self.is_down = !is_connected;
+    }
+
+    // Connects to this address once, and sends. False: nothing more is sent.
+    fn send_to<O: Due>(&mut self, outbox: &mut O, address: &[u8]) -> bool {
+        let Here { hub, line, .. } = self.here;
+        let connected = connect(hub.rt, address);
+        self.tell(address, connected.is_some());
+        let Some(stream) = connected else {
+            return true;
+        };
+        if self.sent.get() {
+            let name = line.name.escape_ascii();
+            let _ = eprintln!(hub.rt;
+                "receiver {name}: a message is sent that it may have already: it wasn't acknowledged"
+            );
+        }
+        self.go_over(outbox, stream).unwrap_or(true)
+    }
+
     // Connects, sends, and connects anew, until nothing more is sent.
     fn run<O: Due>(&mut self, outbox: &mut O) {
         let Here { hub, line, .. } = self.here;
-        let rt = hub.rt;
-        let mut is_down = false;
-        line.set_connected(rt, false);
-        for _ in rt.forever() {
+        line.set_connected(hub.rt, false);
+        for _ in hub.rt.forever() {
             if hub.has_ended() {
                 return;
             }
             self.pass_over(outbox);
             let Ok(Some(address)) = self.address() else {
-                line.wait(rt);
+                line.wait(hub.rt);
                 continue;
             };
-            let (name, at) = (line.name.escape_ascii(), address.escape_ascii());
-            if let Some(stream) = connect(rt, &address) {
-                is_down = false;
-                let _ = eprintln!(rt; "receiver {name} at {at} connected");
-                if self.sent.get() {
-                    let name = line.name.escape_ascii();
-                    let _ = eprintln!(rt;
-                        "receiver {name}: a message is sent that it may have already: it wasn't acknowledged"
-                    );
-                }
-                if let Ok(false) = self.go_over(outbox, stream) {
-                    return;
-                }
-            } else if !is_down {
-                is_down = true;
-                let _ = eprintln!(rt;
-                    "receiver {name} can't be connected; it is tried until it is\n{at}: can't be connected"
-                );
+            if !self.send_to(outbox, &address) {
+                return;
             }
             self.wait();
         }
@@ -377,10 +414,10 @@ fn forward_by<
 >(hub: &Hub<'_, J, S, R>, line: &Line) -> bool {
     let alloc = hub.rt.alloc();
     let path = hub.folder.path.as_str();
-    let (Ok(view), Ok(other)) = (
-        FolderView::beside(hub.rt, path),
-        FolderView::beside(hub.rt, path),
-    ) else {
+    let Ok(view) = FolderView::beside(hub.rt, path) else {
+        return false;
+    };
+    let Ok(other) = FolderView::beside(hub.rt, path) else {
         return false;
     };
     // (what is left from before the start may have been sent then)
@@ -410,6 +447,7 @@ fn forward_by<
         here: &here,
         sent: &sent,
         pause: 1,
+        is_down: false,
     };
     forwarder.run(&mut outbox);
     true

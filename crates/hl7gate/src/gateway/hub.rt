@@ -3,6 +3,8 @@ use crate::gateway::folder::Folder;
 use crate::gateway::lines::Lines;
 use crate::gateway::resend::Asks;
 use crate::gateway::watch::Watch;
+use crate::noted::numbered;
+use crate::serve::Limits;
 use gw_ack::Stamp;
 use gw_delivery::{Plans, Tail};
 use gw_gateway::Office;
@@ -22,6 +24,8 @@ pub(crate) struct Hub<'f, J: Naming, S: Storage + Drop, R: Wait> {
     pub(crate) start: Stamp,
     /// After how many seconds a receiver is late.
     pub(crate) late: u64,
+    /// For how many days messages stay that all receivers have passed.
+    pub(crate) days: u64,
     pub(crate) folder: &'f Folder,
     pub(crate) journal: Journal<J, Office<J, S>>,
     pub(crate) plans: Plans,
@@ -37,6 +41,8 @@ pub(crate) struct Hub<'f, J: Naming, S: Storage + Drop, R: Wait> {
     turns: AtomicU64,
     /// How many sessions wait for a turn.
     pub(crate) waiting: AtomicU64,
+    /// How many bytes the files of the log took when they were looked at last.
+    pub(crate) bytes: AtomicU64,
     /// Whether the disk is short of room; and whether it is full. Nothing is sent then: no acknowledgment could be kept.
     pub(crate) is_short: AtomicBool,
     pub(crate) is_full: AtomicBool,
@@ -49,14 +55,15 @@ impl<'f, J: Naming, S: Storage + Drop, R: Wait> Hub<'f, J, S, R> {
         rt: &'f R,
         alloc: Global,
         start: Stamp,
-        late: u64,
+        limits: Limits,
         folder: &'f Folder,
         journal: Journal<J, Office<J, S>>,
     ) -> Result<Self, AllocError> {
         Ok(Hub {
             rt,
             start,
-            late,
+            late: limits.late,
+            days: limits.days,
             folder,
             journal,
             plans: Plans::new(alloc),
@@ -69,6 +76,7 @@ impl<'f, J: Naming, S: Storage + Drop, R: Wait> Hub<'f, J, S, R> {
             taken: AtomicU64::new(0),
             turns: AtomicU64::new(0),
             waiting: AtomicU64::new(0),
+            bytes: AtomicU64::new(0),
             is_short: AtomicBool::new(false),
             is_full: AtomicBool::new(false),
             has_ended: AtomicBool::new(false),
@@ -106,11 +114,8 @@ impl<'f, J: Naming, S: Storage + Drop, R: Wait> Hub<'f, J, S, R> {
             self.leave();
             return None;
         }
-        Some(
-            self.sessions
-                .fetch_add(1, Ordering::SeqCst)
-                .saturating_add(1),
-        )
+        let before = self.sessions.fetch_add(1, Ordering::SeqCst);
+        Some(before.saturating_add(1))
     }
 
     /// A connection has ended.
@@ -136,7 +141,7 @@ impl<'f, J: Naming, S: Storage + Drop, R: Wait> Hub<'f, J, S, R> {
     pub(crate) fn left_for(&self, receiver: u32) -> u64 {
         let office = self.journal.lock(self.rt);
         let receivers = office.ledger.state().receivers();
-        match receivers.iter().find(|r| r.number() == receiver) {
+        match numbered(receivers, receiver) {
             Some(receiver) => receiver.left(),
             None => 0,
         }
@@ -146,7 +151,7 @@ impl<'f, J: Naming, S: Storage + Drop, R: Wait> Hub<'f, J, S, R> {
     pub(crate) fn first_of(&self, receiver: u32) -> Option<u64> {
         let office = self.journal.lock(self.rt);
         let receivers = office.ledger.state().receivers();
-        match receivers.iter().find(|r| r.number() == receiver) {
+        match numbered(receivers, receiver) {
             Some(receiver) if receiver.left() > 0 => Some(receiver.from()),
             _ => None,
         }

@@ -1,4 +1,5 @@
 //! The receivers' lines: what the program knows of each beside the log.
+use crate::refused::Why;
 use gw_ack::Ack;
 use std::alloc::{AllocError, Global};
 use std::sync::atomic::{AtomicUsize, Ordering};
@@ -28,6 +29,8 @@ pub(crate) struct Stand {
     pub(crate) aa: u64,
     pub(crate) ae: u64,
     pub(crate) ar: u64,
+    /// Why it refused a message last.
+    pub(crate) why: Option<Why>,
     /// How many messages lie refused by it.
     pub(crate) lying: u64,
 }
@@ -88,6 +91,7 @@ impl Line {
                 aa: 0,
                 ae: 0,
                 ar: 0,
+                why: None,
                 lying: 0,
             }),
             bell: Condvar::new(),
@@ -205,9 +209,13 @@ impl Line {
         stand.sent = stand.sent.saturating_add(1);
     }
 
-    /// An acknowledgment came.
-    pub(crate) fn count<R: Wait>(&self, rt: &R, ack: Ack) {
+    /// An acknowledgment came, with this content.
+    pub(crate) fn count<R: Wait>(&self, rt: &R, ack: Ack, answer: &[u8]) {
+        let why = Why::new(ack, answer);
         let mut stand = self.stand.lock(rt);
+        if ack != Ack::AA {
+            stand.why = Some(why);
+        }
         match ack {
             Ack::AA => stand.aa = stand.aa.saturating_add(1),
             Ack::AE => stand.ae = stand.ae.saturating_add(1),

@@ -1,4 +1,5 @@
 //! A message that is too long: it is answered AR where its first segment came, before its connection ends.
+use crate::came::Came;
 use crate::framing::{CR, VT};
 use crate::gateway::hub::Hub;
 use crate::gateway::refusals::Logged;
@@ -96,7 +97,8 @@ pub(crate) fn reject<J: Naming, S: Storage + Drop, R: Wait + Clock + Eprint + Al
         return Ok(());
     };
     let block = block_of(hub, alloc, &header, number)?;
-    let mut writer = Logged::new(alloc, hub, sender);
+    let came = Came::new(alloc, true);
+    let mut writer = Logged::new(alloc, hub, sender, &came);
     if writer.write_all(&block).is_ok() {
         let _ = stream.shutdown(Shutdown::Write);
         read_rest(hub, stream);

@@ -3,6 +3,8 @@ use crate::arguments::VERSION;
 use crate::ended::Ended;
 use crate::gateway::hub::Hub;
 use crate::gateway::lines::{Line, Stand};
+use crate::noted::numbered;
+use crate::refused::text_of;
 use crate::sockets::{address_of, host_name, listen_briefly, pause};
 use crate::stamps::{stamp_of, time_in};
 use clap::ArgMatches;
@@ -88,6 +90,7 @@ fn receiver_of<R: Clock + AllocGlobal>(
         ar: stand.ar,
         refused: noted.refused(),
         lying: stand.lying,
+        why: text_of(rt.alloc(), stand.why)?,
     })
 }
 
@@ -99,7 +102,7 @@ fn add_figures<R: Wait + Clock + AllocGlobal>(
     noted: &[Noted],
 ) -> Result<(), AllocError> {
     let stand = line.stand(rt);
-    if let Some(noted) = noted.iter().find(|r| r.number() == line.number)
+    if let Some(noted) = numbered(noted, line.number)
         && (stand.is_planned || noted.left() > 0)
     {
         all.push(receiver_of(rt, line, &stand, noted)?)?;
@@ -141,6 +144,7 @@ fn figures_of<J: Naming, S: Storage + Drop, R: Wait + Clock + AllocGlobal>(
         open: hub.open.load(Ordering::SeqCst),
         sessions: hub.sessions.load(Ordering::SeqCst),
         entries,
+        bytes: hub.bytes.load(Ordering::SeqCst),
         is_short: hub.is_short.load(Ordering::SeqCst),
         has_failed: hub.fault().is_some(),
         receivers: receivers_of(hub)?,

@@ -6,7 +6,8 @@ use crate::gateway::lines::Line;
 use crate::plans::parse_plan;
 use crate::runtime::Runtime;
 use crate::stamps::microseconds;
-use crate::swaps::{Unswapped, lines_of};
+use crate::swaps::unread_answer;
+use gw_due::Receiver;
 use gw_gateway::PutFault;
 use gw_journal::{Naming, Storage};
 use gw_plan::Plan;
@@ -15,6 +16,18 @@ use std::alloc::{AllocError, Global};
 use std::fs::metadata;
 use std::sync::atomic::Ordering;
 use std::sync::{Arc, Wait};
+
+/// Adds a receiver to those that want a line.
+fn add_wanted(
+    wanted: &mut Vec<(u32, Vec<u8>, bool)>,
+    alloc: Global,
+    receiver: &Receiver,
+    is_planned: bool,
+) -> Result<(), AllocError> {
+    let name = Vec::from_slice(alloc, receiver.name())?;
+    wanted.push((receiver.number(), name, is_planned))?;
+    Ok(())
+}
 
 /// The receivers for which something is left, and those of the plan in force: their numbers and names, and whether the plan has them.
 fn wanted<J: Naming, S: Storage + Drop, R: Runtime + Wait>(
@@ -26,8 +39,7 @@ fn wanted<J: Naming, S: Storage + Drop, R: Runtime + Wait>(
     for receiver in office.ledger.state().receivers() {
         let is_planned = office.current.numbers().contains(&receiver.number());
         if is_planned || receiver.left() > 0 {
-            let name = Vec::from_slice(alloc, receiver.name())?;
-            wanted.push((receiver.number(), name, is_planned))?;
+            add_wanted(&mut wanted, alloc, receiver, is_planned)?;
         }
     }
     Ok(wanted)
@@ -79,6 +91,15 @@ fn read_plan<'a, R: Runtime>(rt: &R, alloc: Global, path: &'a str) -> Result<Arc
     Ok(Arc::new(alloc, plan)?)
 }
 
+/// Whether a plan has the receivers of the one in force.
+fn is_like<J: Naming, S: Storage + Drop, R: Runtime + Wait>(
+    hub: &Hub<'_, J, S, R>,
+    plan: &Plan,
+) -> Result<bool, AllocError> {
+    let current = hub.journal.lock(hub.rt).current.again()?;
+    Ok(current.plan().same_receivers(plan))
+}
+
 /// Takes the plan of a file. `is_install`: it may have other receivers. The answer says what came of it.
 pub(crate) fn take_file<J: Naming, S: Storage + Drop, R: Runtime + Wait>(
     hub: &Hub<'_, J, S, R>,
@@ -88,14 +109,9 @@ pub(crate) fn take_file<J: Naming, S: Storage + Drop, R: Runtime + Wait>(
     let alloc = hub.rt.alloc();
     let plan = match read_plan(hub.rt, alloc, path) {
         Ok(plan) => plan,
-        Err(ended) => {
-            let lines = lines_of(hub.rt, path, &Unswapped::Text(ended));
-            let lines = String::from_utf8(lines).unwrap_or(String::new(alloc));
-            return format!(in alloc; "refused\n{lines}");
-        }
+        Err(ended) => return unread_answer(hub.rt, path, ended),
     };
-    let current = hub.journal.lock(hub.rt).current.again()?;
-    if !is_install && !current.plan().same_receivers(&plan) {
+    if !is_install && !is_like(hub, &plan)? {
         return format!(in alloc;
             "refused\nswap refused 3\n{path}: the plan has other receivers\n`install {path}` takes a plan with other receivers\n"
         );

@@ -1,17 +1,17 @@
 //! What is noted of each answer that isn't AA: a line of the log, which has the message's control id, and what the page shows, which hasn't.
+use crate::answers::{is_accepted, line_of, refusal_of, word_of};
+use crate::came::Came;
 use crate::gateway::hub::Hub;
 use crate::gateway::senders::Sender;
-use crate::stamps::time_in;
-use gw_er7::{Message, Place, Segment, read};
+use gw_er7::{Message, read};
 use gw_journal::{Naming, Storage};
 use gw_mllp::Decoder;
 use gw_page::Refusal;
-use memchr::memmem::find;
 use std::alloc::{AllocError, Global};
 use std::io;
 use std::io::{Eprint, Error, ErrorKind, Write};
-use std::net::SocketAddr;
 use std::sync::Wait;
+use std::sync::atomic::Ordering;
 
 /// How many milliseconds one write waits for its sender.
 pub(crate) const TURN: u64 = 200;
@@ -21,8 +21,8 @@ const TURNS: u64 = 290;
 
 const LAST_TURNS: u64 = 5;
 
-/// The most bytes of MSH-3, and of MSH-4, that are noted: their length in HL7 v2.5.1, 2.15.9.
-const LONGEST: usize = 227;
+/// The condition of an answer to a message that isn't judged (HL7 table 0357).
+const INTERNAL: &[u8] = b"207";
 
 /// A sender's connection as its answers are written, with the log.
 #[derive(Drop)]
@@ -30,17 +30,24 @@ pub(crate) struct Logged<'a, 'f, J: Naming, S: Storage + Drop, R: Wait> {
     alloc: Global,
     hub: &'a Hub<'f, J, S, R>,
     sender: &'a Sender,
+    came: &'a Came,
     answers: Decoder,
     // how many times an answer was waited for since the gateway ends
     late: u64,
 }
 
 impl<'a, 'f, J: Naming, S: Storage + Drop, R: Wait> Logged<'a, 'f, J, S, R> {
-    pub(crate) fn new(alloc: Global, hub: &'a Hub<'f, J, S, R>, sender: &'a Sender) -> Self {
+    pub(crate) fn new(
+        alloc: Global,
+        hub: &'a Hub<'f, J, S, R>,
+        sender: &'a Sender,
+        came: &'a Came,
+    ) -> Self {
         Logged {
             alloc,
             hub,
             sender,
+            came,
             answers: Decoder::new(alloc),
             late: 0,
         }
@@ -49,12 +56,14 @@ impl<'a, 'f, J: Naming, S: Storage + Drop, R: Wait> Logged<'a, 'f, J, S, R> {
     // Takes what was written, and logs the answers that end in it. What can't be logged isn't: the answer has gone out.
     fn take(&mut self, piece: &[u8]) {
         if self.answers.feed(piece).is_err() {
+            self.came.lose();
             return;
         }
         for _ in 0..piece.len() {
             let Some(content) = self.answers.next_block() else {
                 return;
             };
+            self.came.answer();
             if !is_accepted(&content)
                 && let Ok(answer) = read(self.alloc, &content)
             {
@@ -63,11 +72,31 @@ impl<'a, 'f, J: Naming, S: Storage + Drop, R: Wait> Logged<'a, 'f, J, S, R> {
         }
     }
 
+    // Why a message is answered AR with 207, where that is known. One that can't be read is kept, where that is asked for.
+    fn reason(&self, refusal: &Refusal) -> Result<String, AllocError> {
+        if refusal.code.as_slice() != INTERNAL {
+            return Ok(String::new(self.alloc));
+        }
+        let is_short = self.hub.is_short.load(Ordering::SeqCst);
+        match self.came.unread() {
+            Some(unread) => {
+                if !is_short {
+                    let folder = self.hub.folder;
+                    folder.keep_unread(self.hub.rt, self.alloc, &unread.bytes);
+                }
+                unread.words(self.alloc)
+            }
+            None => self.came.words(is_short),
+        }
+    }
+
     // Notes an answer that isn't AA.
     fn note(&self, answer: &Message) -> Result<(), AllocError> {
-        let refusal = refusal_of(self.alloc, self.sender, answer)?;
+        let Sender { number, peer, .. } = self.sender;
+        let refusal = refusal_of(self.alloc, *number, *peer, answer)?;
         let control = word_of(self.alloc, answer, b"MSA", 2)?;
-        let line = line_of(self.alloc, &refusal, &control)?;
+        let reason = self.reason(&refusal)?;
+        let line = line_of(self.alloc, &refusal, &control, &reason)?;
         self.hub.watch.note(self.hub.rt, refusal);
         self.hub.folder.add(self.hub.rt, line.as_bytes());
         Ok(())
@@ -108,112 +137,4 @@ impl<J: Naming, S: Storage + Drop, R: Wait + Eprint> Write for Logged<'_, '_, J,
     fn flush(&mut self) -> io::Result<()> {
         Ok(())
     }
-}
-
-/// Whether an answer says AA, by its bytes: MSA-1 stands behind the name and a separator.
-fn is_accepted(content: &[u8]) -> bool {
-    let Some(at) = find(content, b"\rMSA") else {
-        return false;
-    };
-    let code = at.saturating_add(5);
-    content.get(code..code.saturating_add(2)) == Some(b"AA".as_slice())
-}
-
-/// The first segment of this name.
-fn segment_of<'a>(answer: &'a Message, name: &[u8; 3]) -> Option<Segment<'a>> {
-    for i in 0..answer.segment_count() {
-        let segment = answer.segment(i);
-        if segment.name() == *name {
-            return Some(segment);
-        }
-    }
-    None
-}
-
-/// The text of the first component of a field. It is empty where the answer has none.
-fn word_of(
-    alloc: Global,
-    answer: &Message,
-    name: &[u8; 3],
-    field: usize,
-) -> Result<Vec<u8>, AllocError> {
-    let place = Place {
-        field,
-        rep: 1,
-        comp: 1,
-        sub: 1,
-    };
-    match segment_of(answer, name) {
-        Some(segment) => Vec::from_slice(alloc, segment.text(place)),
-        None => Ok(Vec::new(alloc)),
-    }
-}
-
-/// The texts of a field's components. They are none where the answer hasn't the field.
-fn field_of(
-    alloc: Global,
-    answer: &Message,
-    name: &[u8; 3],
-    field: usize,
-) -> Result<Vec<u8>, AllocError> {
-    let mut texts = Vec::new(alloc);
-    let Some(segment) = segment_of(answer, name) else {
-        return Ok(texts);
-    };
-    for comp in 1..=segment.comps(field, 1) {
-        if comp > 1 {
-            texts.push(b'^')?;
-        }
-        texts.extend_from_slice(segment.text(Place {
-            field,
-            rep: 1,
-            comp,
-            sub: 1,
-        }))?;
-    }
-    Ok(texts)
-}
-
-/// Who sent a message: the address of the connection, and MSH-3 and MSH-4 where they could be read. An answer has these as MSH-5 and MSH-6.
-fn from_of(alloc: Global, peer: SocketAddr, answer: &Message) -> Result<Vec<u8>, AllocError> {
-    let mut name = field_of(alloc, answer, b"MSH", 5)?;
-    let mut place = field_of(alloc, answer, b"MSH", 6)?;
-    name.truncate(LONGEST);
-    place.truncate(LONGEST);
-    let from = if name.is_empty() && place.is_empty() {
-        format!(in alloc; "{peer}")?
-    } else {
-        format!(in alloc; "{peer} {}|{}", name.escape_ascii(), place.escape_ascii())?
-    };
-    Ok(from.into_bytes())
-}
-
-/// What the page shows of an answer: of the message its sender and its place alone, no other value and no control id.
-fn refusal_of(alloc: Global, sender: &Sender, answer: &Message) -> Result<Refusal, AllocError> {
-    Ok(Refusal {
-        time: time_in(&word_of(alloc, answer, b"MSH", 7)?),
-        session: sender.number,
-        from: from_of(alloc, sender.peer, answer)?,
-        number: word_of(alloc, answer, b"MSH", 10)?,
-        answer: word_of(alloc, answer, b"MSA", 1)?,
-        code: word_of(alloc, answer, b"ERR", 3)?,
-        place: field_of(alloc, answer, b"ERR", 2)?,
-    })
-}
-
-/// The line of an answer: its time, the session, its number, the message's control id, MSA-1, the code and place of ERR, and who sent the message.
-fn line_of(alloc: Global, refusal: &Refusal, control: &[u8]) -> Result<String, AllocError> {
-    let session = refusal.session;
-    let control = if control.is_empty() { b"-" } else { control };
-    let gap = if refusal.place.is_empty() { "" } else { " " };
-    format!(in alloc;
-        "{} session {session} {} {} {} {}{gap}{} from {}\n",
-        refusal.time.escape_ascii(),
-        refusal.number.escape_ascii(),
-        control.escape_ascii(),
-        refusal.answer.escape_ascii(),
-        refusal.code.escape_ascii(),
-        refusal.place.escape_ascii(),
-        str::from_utf8(&refusal.from).unwrap_or("")
-    )
 }

@@ -1,7 +1,7 @@
 //! Words that read the log's files. A thread of its own answers them. It looks which files are needed too: so no look comes between what it reads and puts.
 use crate::asked::answer_to;
 use crate::gateway::hub::Hub;
-use crate::gateway::late::look_at_files;
+use crate::retention::{Age, look_at_files};
 use crate::runtime::Runtime;
 use crate::store::Unanswered;
 use gw_delivery::PageFault;
@@ -53,8 +53,9 @@ impl Asks {
 /// Whether a line is a word that reads the log.
 pub(crate) fn reads_log(line: &str) -> bool {
     match line.split_once(' ') {
+        Some(("status", rest)) => rest.starts_with("--refused "),
         Some(("find" | "show" | "resend" | "replay" | "skip" | "park", rest)) => !rest.is_empty(),
-        _ => false,
+        _ => line == "seal",
     }
 }
 
@@ -67,9 +68,8 @@ fn attend<J: Naming, S: Storage + Drop, R: Runtime + Wait>(
     let alloc = hub.rt.alloc();
     let text = match answer_to(hub, line.trim_end()) {
         Ok(text) => text,
-        Err(Unanswered::Ended) => format!(in alloc; "refused: the gateway ends\n")?,
         Err(Unanswered::Page(PageFault::Memory)) => return Err(io::Error::from(AllocError)),
-        Err(Unanswered::Page(fault)) => format!(in alloc; "refused: {fault}\n")?,
+        Err(why) => format!(in alloc; "refused: {why}\n")?,
     };
     let mut writer = stream;
     writer.write_all(text.as_bytes())
@@ -78,13 +78,14 @@ fn attend<J: Naming, S: Storage + Drop, R: Runtime + Wait>(
 /// Answers one after another who asks, and looks from time to time which files nobody needs, until the gateway ends.
 pub(crate) fn resend_all<J: Naming, S: Storage + Drop, R: Runtime + Wait>(hub: &Hub<'_, J, S, R>) {
     let mut keeper = None;
+    let mut age = Age::new();
     let mut looks = 0_u64;
     for _ in hub.rt.forever() {
         if hub.has_ended() {
             return;
         }
         if looks == 0 {
-            keeper = look_at_files(hub, keeper);
+            keeper = look_at_files(hub, keeper, &mut age);
         }
         looks = looks.wrapping_add(1) % FILES;
         match hub.asks.take(hub.rt) {

@@ -1,4 +1,5 @@
 //! Sessions: no answer goes out before what it answers is on the disk.
+use crate::came::Came;
 use crate::gateway::hub::Hub;
 use crate::gateway::overlong::reject;
 use crate::gateway::refusals::{Logged, TURN};
@@ -51,11 +52,12 @@ fn answer<J: Naming, S: Storage + Drop, R: Wait + AllocGlobal + Clock + Eprint>(
     sender: &Sender,
 ) -> Result<Counts, RunFault> {
     let alloc = hub.rt.alloc();
-    let mut sent = Sent::new(alloc, hub, sender);
+    let came = Came::new(alloc, false);
+    let mut sent = Sent::new(alloc, hub, sender, &came);
     let clock = Utc::new(hub.rt, hub.start);
     let bells = Ringing { hub };
     let mut judge = AtLog::new(alloc, hub.rt, &hub.journal, clock, &bells);
-    let mut writer = Handed::new(Writes::new(Logged::new(alloc, hub, sender)));
+    let mut writer = Handed::new(Writes::new(Logged::new(alloc, hub, sender, &came)));
     let mut reader = Reads::new(&mut sent);
     let answered = answer_sender(alloc, &mut judge, &mut reader, &mut writer);
     sent.give_turn();

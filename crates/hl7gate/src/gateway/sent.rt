@@ -1,4 +1,5 @@
 //! What a sender sends, as a session reads it.
+use crate::came::Came;
 use crate::framing::Framing;
 use crate::gateway::hub::Hub;
 use crate::gateway::senders::Sender;
@@ -32,6 +33,7 @@ const PATIENCE: u64 = 60;
 pub(crate) struct Sent<'a, 'f, J: Naming, S: Storage + Drop, R: Wait> {
     hub: &'a Hub<'f, J, S, R>,
     stream: &'a TcpStream,
+    came: &'a Came,
     stand: Stand,
     framing: Framing,
     silent: u64,
@@ -40,12 +42,18 @@ pub(crate) struct Sent<'a, 'f, J: Naming, S: Storage + Drop, R: Wait> {
 }
 
 impl<'a, 'f, J: Naming, S: Storage + Drop, R: Wait + Clock + Eprint> Sent<'a, 'f, J, S, R> {
-    pub(crate) fn new(alloc: Global, hub: &'a Hub<'f, J, S, R>, sender: &'a Sender) -> Self {
+    pub(crate) fn new(
+        alloc: Global,
+        hub: &'a Hub<'f, J, S, R>,
+        sender: &'a Sender,
+        came: &'a Came,
+    ) -> Self {
         let stream = &sender.stream;
         let _ = stream.set_read_timeout(Some(Duration::from_millis(LOOK)));
         Sent {
             hub,
             stream,
+            came,
             stand: Stand::new(alloc),
             framing: Framing::new(sender.number),
             silent: 0,
@@ -140,6 +148,7 @@ impl<J: Naming, S: Storage + Drop, R: Wait + Clock + Eprint> Read for Sent<'_, '
                     self.silent = 0;
                     let count = count.min(buf.len());
                     self.framing.take(self.hub.rt, &buf[..count]);
+                    self.came.add(&buf[..count]);
                     self.stand.take(&buf[..count])?;
                     return Ok(count);
                 }
