@@ -16,7 +16,7 @@ use Rattle.gw_resolve.specs.Intervals.{once, of_card, product}
 use Rattle.gw_resolve.specs.Order.{is_segment, is_group}
 use Rattle.gw_resolve.specs.Resolved.{copy, Rule, SegmentItem, Items, no_items, segment_item, group_item}
 use Rattle.gw_profile.specs.Labels.{labelled}
-use Rattle.gw_resolve.specs.Naming.{place_of, place_or, itself, node_or, after, ends_at_segment, is_single_place, has_place, but_last, label_failures, segments_failures, walk_failures, rule_failures, path_failures, target_failures, rule, resolved_items}
+use Rattle.gw_resolve.specs.Naming.{place_of, place_or, itself, node_or, after, ends_at_segment, is_single_place, has_place, but_last, label_failures, segments_failures, walk_failures, rule_failures, path_failures, target_failures, rule, item_listed, resolved_items}
 use Rattle.gw_resolve.proofs.Finding.{below_there}
 use Rattle.gw_check.proofs.Placing.{first_or_later}
 
@@ -174,15 +174,15 @@ module _ (s : SegmentValue) (scope : List Element) where
       elim (is_forbidden (Some f.usage)) as (λ b. flat_map (rule_failures (a_segment s ∷ scope)) (if b then field_rules s.label fields else copy_rule s.label f.number ∷ field_rules s.label fields) ≡ [])
       [ true ↦ rules_hold fields | false ↦ no_more (rule_failures (a_segment s ∷ scope) (copy_rule s.label f.number)) _ (rule_holds f.number) (rules_hold fields) ]
 
-  rule_is : (tables : List raw.TableValue) (number : ℕ) → rule tables (a_segment s ∷ scope) (copy_rule s.label number) ≡ same_rule number
-  rule_is tables number = ap (λ p. record { line = 0; field = number; making = copy (record { place = unwrap_or p itself; field = number }) }) own_place
+  rule_is : (tables : List raw.TableValue) (listed : List ℕ) (number : ℕ) → rule tables listed (a_segment s ∷ scope) (copy_rule s.label number) ≡ same_rule number
+  rule_is tables listed number = ap (λ p. record { line = 0; field = number; making = copy (record { place = unwrap_or p itself; field = number }) }) own_place
 
-  rules_are : (tables : List raw.TableValue) (fields : List FieldValue) → map (rule tables (a_segment s ∷ scope)) (field_rules s.label fields) ≡ same_rules fields
-  rules_are tables [] = refl
-  rules_are tables (f ∷ fields) =
+  rules_are : (tables : List raw.TableValue) (listed : List ℕ) (fields : List FieldValue) → map (rule tables listed (a_segment s ∷ scope)) (field_rules s.label fields) ≡ same_rules fields
+  rules_are tables listed [] = refl
+  rules_are tables listed (f ∷ fields) =
       elim (is_forbidden (Some f.usage)) as
-      (λ b. map (rule tables (a_segment s ∷ scope)) (if b then field_rules s.label fields else copy_rule s.label f.number ∷ field_rules s.label fields) ≡ (if b then same_rules fields else same_rule f.number ∷ same_rules fields))
-      [ true ↦ rules_are tables fields | false ↦ ap₂ (λ r rs. r ∷ rs) (rule_is tables f.number) (rules_are tables fields) ]
+      (λ b. map (rule tables listed (a_segment s ∷ scope)) (if b then field_rules s.label fields else copy_rule s.label f.number ∷ field_rules s.label fields) ≡ (if b then same_rules fields else same_rule f.number ∷ same_rules fields))
+      [ true ↦ rules_are tables listed fields | false ↦ ap₂ (λ r rs. r ∷ rs) (rule_is tables listed f.number) (rules_are tables listed fields) ]
 
 -- ---- no path fails
 
@@ -235,7 +235,8 @@ items_are tables e scope j (segment s rest) h d g =
     let here = segment_stands (nodes_of e) j s rest h in
     let number = number_there (nodes_of e) j 0 s.label (a_segment s) here in
     let walks = place_is e scope j s.label (a_segment s) here in
-    let rules = ap (λ w. map (rule tables w) (field_rules s.label s.fields)) (walked_there e scope j s.label (a_segment s) here) ∙ rules_are s (e ∷ scope) tables s.fields in
+    let listed = item_listed (nodes_of e) (segment_of s) in
+    let rules = ap (λ w. map (rule tables listed w) (field_rules s.label s.fields)) (walked_there e scope j s.label (a_segment s) here) ∙ rules_are s (e ∷ scope) tables listed s.fields in
     let later = items_are tables e scope (suc j) rest (behind_segment (nodes_of e) j s rest h d) d.1 g in
     elim (is_forbidden (Some s.usage)) as
     (λ b. resolved_items tables (e ∷ scope) (nodes_of e) (if b then same_items rest else raw.segment (segment_of s) (same_items rest))

@@ -9,17 +9,18 @@ use Rattle.gw_er7.specs.Names as Names
 use Rattle.gw_er7.specs.Message.{first_field}
 use Rattle.gw_er7.proofs.Messages.{header_is}
 use Rattle.gw_profile.proofs.Facts.{both, tells}
-use Rattle.gw_profile.specs.Shapes.{SegmentValue, Forest, nothing, segment, group, ProfileValue}
+use Rattle.gw_profile.specs.Shapes.{FieldValue, SegmentValue, Forest, nothing, segment, group, ProfileValue}
 use Rattle.gw_profile.specs.WellFormed as profiles
 use Rattle.gw_maplang.specs.Among.{Distinct}
 use Rattle.gw_maplang.specs.Shapes as raw
 use Rattle.gw_maplang.specs.Lawful as theirs
-use Rattle.gw_resolve.specs.Places.{Element, the_whole, child, nodes_of_child, name_of, within}
+use Rattle.gw_resolve.specs.Places.{Element, the_whole, child, nodes_of_child, fields_of, name_of, within}
 use Rattle.gw_resolve.specs.Resolved.{Alternative, Rule}
 use Rattle.gw_resolve.specs.Order.{is_segment, are_placed}
-use Rattle.gw_resolve.specs.Lawful.{LawfulRows, LawfulSource, LawfulLeaf, LawfulAt, LawfulLeaves, LawfulMaking, LawfulRule, LawfulItems, place}
+use Rattle.gw_resolve.specs.Lawful.{LawfulRows, LawfulSource, LawfulLeaf, LawfulAt, LawfulLeaves, LawfulMaking, LawfulFor, LawfulRule, LawfulItems, place}
 use Rattle.gw_profile.specs.Labels.{labelled}
-use Rattle.gw_resolve.specs.Naming.{node_or, walked_if, place_or, target_failures, naming_failures, no_rows, source, leaf, alternative, at_leaf, making, rule, resolved_items, resolved}
+use Rattle.gw_resolve.specs.Naming.{node_or, walked_if, place_or, target_failures, naming_failures, no_rows, source, leaf, alternative, at_leaf, listed_of, making, rule, item_listed, resolved_items, resolved}
+use Rattle.gw_check.proofs.Listing.{lawful_listed}
 use Rattle.gw_check.proofs.Placing.{first_or_later, nil_both, alike, segment_parts, group_parts, flat_parts, placed_where_named}
 
 -- ---- fields of target segments
@@ -107,10 +108,18 @@ at_kept tables names scope repeated l t h =
 leaves_kept : (tables : List raw.TableValue) (names : List (List ℕ)) (scope : List Element) (repeated : Bool) (ls : List raw.LeafValue) → AllByRecursion theirs.LawfulTable tables → theirs.LawfulLeaves names repeated ls → LawfulLeaves repeated (map (at_leaf tables scope) ls)
 leaves_kept tables names scope repeated ls t h = record { each = all_mapped (theirs.LawfulLeafValue names repeated) (LawfulAt repeated) (at_leaf tables scope) (λ l kept. at_kept tables names scope repeated l t kept) ls h.each; distinct = subst Distinct (sym (map-map place (at_leaf tables scope) ls)) h.distinct }
 
-making_kept : (tables : List raw.TableValue) (names : List (List ℕ)) (scope : List Element) (m : raw.Making) → AllByRecursion theirs.LawfulTable tables → theirs.LawfulMaking names m → LawfulMaking (making tables scope m)
-making_kept tables names scope (raw.Repeats from c ls) t h = leaves_kept tables names scope true ls t h.2
-making_kept tables names scope (raw.Builds ls) t h = leaves_kept tables names scope false ls t h
-making_kept tables names scope m t h = tt
+making_kept : (tables : List raw.TableValue) (names : List (List ℕ)) (listed : List ℕ) (scope : List Element) (m : raw.Making) → AllByRecursion theirs.LawfulTable tables → theirs.LawfulMaking names m → LawfulMaking (making tables listed scope m)
+making_kept tables names listed scope (raw.Repeats from c ls) t h = leaves_kept tables names scope true ls t h.2
+making_kept tables names listed scope (raw.Builds ls) t h = leaves_kept tables names scope false ls t h
+making_kept tables names listed scope m t h = tt
+
+-- the number of the field is one of the segment's, and the rest lists what it must
+for_kept : (tables : List raw.TableValue) (scope : List Element) (label name : List ℕ) (fields : List FieldValue) (rules : List raw.RuleValue) (m : raw.Making) (field : ℕ) → first_field name ≤ theirs.least_field label → theirs.LawfulFor (theirs.least_field label) m field → LawfulFor name fields (making tables (listed_of label fields rules) scope m) field
+for_kept tables scope label name fields rules (raw.Copies from) field fair h = omega (arith, fair, h.0)
+for_kept tables scope label name fields rules (raw.Firsts from c) field fair h = omega (arith, fair, h.0)
+for_kept tables scope label name fields rules (raw.Repeats from c ls) field fair h = omega (arith, fair, h.0)
+for_kept tables scope label name fields rules (raw.Builds ls) field fair h = omega (arith, fair, h.0)
+for_kept tables scope label name fields rules raw.CopiesRest field fair h = (h, lawful_listed label name fields rules fair)
 
 -- ---- items
 
@@ -119,12 +128,13 @@ items_kept tables names scope nodes j raw.nothing t h f e = tt
 items_kept tables names scope nodes j (raw.segment s rest) t h f e =
     let p = segment_parts nodes j s rest e in
     let fair = fair_child nodes s.label (node_or 0 nodes s.label) f p.0.at p.0.kind in
-    let inner = walked_if scope s.source in (
+    let inner = walked_if scope s.source in
+    let target = child nodes (node_or 0 nodes s.label) in (
       record {
         each =
-            all_mapped (theirs.LawfulRule names s.label) (LawfulRule (name_of (child nodes (node_or 0 nodes s.label)))) (rule tables inner)
-            (λ r kept. record { field = omega (arith, fair, kept.0.0); making = making_kept tables names inner r.making t kept.1 }) s.rules h.0.each;
-        distinct = subst Distinct (sym (map-map (λ (r : Rule). r.field) (rule tables inner) s.rules)) h.0.distinct;
+            all_mapped (theirs.LawfulRule names s.label) (LawfulRule (name_of target) (fields_of target)) (rule tables (item_listed nodes s) inner)
+            (λ r kept. record { field = for_kept tables inner s.label (name_of target) (fields_of target) s.rules r.making r.field fair kept.0; making = making_kept tables names (item_listed nodes s) inner r.making t kept.1 }) s.rules h.0.each;
+        distinct = subst Distinct (sym (map-map (λ (r : Rule). r.field) (rule tables (item_listed nodes s) inner) s.rules)) h.0.distinct;
       },
       items_kept tables names scope nodes (node_or j nodes s.label) rest t h.1 f p.1,
     )

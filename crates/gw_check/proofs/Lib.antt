@@ -13,3 +13,4 @@ pub mod IdentityReads
 pub mod Reaching
 pub mod IdentityReached
 pub mod Sharing
+pub mod Listing

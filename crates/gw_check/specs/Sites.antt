@@ -3,7 +3,7 @@ use Rattle.std.specs.Prelude.{ℕ, ◌==◌, List, [], ◌∷◌, ◌++◌, flat
 use Rattle.gw_maplang.specs.declared.rule.DateDigits.{DateDigits}
 use Rattle.gw_maplang.specs.Shapes.{Rows}
 use Rattle.gw_resolve.specs.Places.{Place}
-use Rattle.gw_resolve.specs.Resolved.{Reference, FieldCondition, Source, of_field, of_current, Leaf, const, copied, looked_up, dated, Alternative, At, alternatives, Making, copy, first, repeat, build, Rule, SegmentItem, Items, no_items, segment_item, group_item, flat_item, first_child}
+use Rattle.gw_resolve.specs.Resolved.{Reference, FieldCondition, Source, of_field, of_current, Leaf, const, copied, looked_up, dated, Alternative, At, alternatives, Making, copy, first, repeat, build, the_rest, Rule, SegmentItem, Items, no_items, segment_item, group_item, flat_item, first_child}
 use Rattle.gw_resolve.specs.Positions.{Position, position, walked, inner, inner_if}
 
 -- An element of a profile: a node, by the numbers of the nodes from the top on, or in it a field, a component, a subcomponent; 0 is said where the whole is meant.
@@ -69,12 +69,17 @@ other_sites scope around at field comp sub o = site_of o.line at field comp sub 
 abbrev pub leaf_sites : List Position → Option Reference → Position → ℕ → At → List Site
 leaf_sites scope around at field a = flat_map (other_sites scope around at field a.comp a.sub) (alternatives a)
 
--- leaves stand before their field: of a rule of one leaf in one line the leaf is named
+-- a field of the rest, which is that of the same number
+abbrev pub taken_sites : List Position → Position → ℕ → Place → ℕ → List Site
+taken_sites scope at line from number = site_of line at number 0 0 (read (spot_at scope from number 0 0)) ∷ []
+
+-- leaves stand before their field: of a rule of one leaf in one line the leaf is named; the rest is of the segment that it reads
 abbrev pub making_sites : List Position → Position → ℕ → ℕ → Making → List Site
 making_sites scope at line field (copy from) = site_of line at field 0 0 (read (spot_at scope from.place from.field 0 0)) ∷ []
 making_sites scope at line field (first from condition) = site_of line at field 0 0 (read (spot_at scope from.place from.field 0 0)) ∷ []
 making_sites scope at line field (repeat from condition leaves) = flat_map (leaf_sites scope (Some from) at field) leaves ++ (site_of line at field 0 0 (repeated (spot_at scope from.place from.field 0 0)) ∷ [])
 making_sites scope at line field (build leaves) = flat_map (leaf_sites scope None at field) leaves ++ (site_of line at field 0 0 unsaid ∷ [])
+making_sites scope at line field (the_rest from listed taken) = site_of line at field 0 0 (read (spot_at scope from 0 0 0)) ∷ flat_map (taken_sites scope at line from) taken
 
 abbrev pub rule_sites : List Position → Position → Rule → List Site
 rule_sites scope at r = making_sites scope at r.line r.field r.making

@@ -1,7 +1,7 @@
 //! What the rules of a target segment make.
-ghost use Rattle.std.specs.Prelude.{map};
+ghost use Rattle.std.specs.Prelude.{map, flat_map};
 ghost use Rattle.gw_resolve.specs.Positions.{positions};
-ghost use Rattle.gw_resolve.specs.Seen.{rule as seen_rule};
+ghost use Rattle.gw_resolve.specs.Seen.{rule as seen_rule, place as seen_place};
 ghost use Rattle.gw_check.specs.Seen.{AddsAll, made, others_made, leaves_made, read_at, origin as seen_origin};
 ghost use Rattle.gw_check.specs.Sites as spec;
 
@@ -100,6 +100,30 @@ fn add_leaves(
     Ok(())
 }
 
+// Adds what the rest makes of each of these fields of the segment at a place.
+fn add_taken(
+    alloc: Global,
+    sites: &mut Vec<Site>,
+    scope: &[Vec<usize>],
+    at: &[usize],
+    line: u32,
+    from: &ScopePath,
+    taken: &[u32],
+) -> Result<(), AllocError>
+    ensures { AddsAll result sites.old.items sites.new.items
+        (λ tables. flat_map (spec.taken_sites (positions scope.now) at.now line (seen_place from.now)) taken.now) }
+{
+    for number in taken {
+        let field = Target {
+            at,
+            field: *number,
+            part: LeafPlace { comp: 0, sub: 0 },
+        };
+        add_read(alloc, sites, scope, line, field, from, *number)?;
+    }
+    Ok(())
+}
+
 fn add_rule(
     alloc: Global,
     sites: &mut Vec<Site>,
@@ -127,6 +151,10 @@ fn add_rule(
         Making::Build(leaves) => {
             add_leaves(alloc, sites, scope, None, field, leaves)?;
             add_site(alloc, sites, line, field, Origin::Unsaid)
+        }
+        Making::Rest(from, _, taken) => {
+            add_read(alloc, sites, scope, line, field, from, 0)?;
+            add_taken(alloc, sites, scope, at, line, from, taken)
         }
     }
 }

@@ -1,12 +1,12 @@
 -- Where no leaf is a fault there is a segment with the texts of the rules.
-use Rattle.std.proofs.Common.{◌≡◌, ℕ, ◌+◌, ◌<◌, ◌≤◌, inl, inr, List, [], ◌∷◌, Option, Some, None, refl, sym, subst, arith, length}
+use Rattle.std.proofs.Common.{◌≡◌, ℕ, ◌+◌, ◌<◌, ◌≤◌, inl, inr, List, [], ◌∷◌, Option, Some, None, refl, sym, ap, subst, arith, length}
 use Rattle.std.specs.Prelude.{◌==◌, ◌&&◌}
 use Rattle.std.specs.List.{AllByRecursion}
 use Rattle.std.proofs.lemmas.Bool.Decides.{eqb_tells, Decides-eqb}
 use Rattle.gw_er7.specs.Names.{IsName}
 use Rattle.gw_er7.specs.Message.{Texts, text_of, SegmentValue, first_field, IsEntry, IsSegment}
 use Rattle.gw_er7.specs.Presence.{RepAt}
-use Rattle.gw_resolve.specs.Resolved.{Source, of_field, of_current, Leaf, const, copied, looked_up, dated, Alternative, At, alternatives, leaf_at, Making, copy, first, repeat, build, Rule, rule_of}
+use Rattle.gw_resolve.specs.Resolved.{Source, of_field, of_current, Leaf, const, copied, looked_up, dated, Alternative, At, alternatives, leaf_at, Making, copy, first, repeat, build, the_rest, Rule, rule_of, maker_of}
 use Rattle.gw_maplang.specs.Among.{Among}
 use Rattle.gw_maplang.specs.Shapes.{Rows, Condition}
 use Rattle.gw_interp.specs.Occurrences.{texts_at}
@@ -16,6 +16,7 @@ use Rattle.gw_interp.specs.own.Ready.{NoFaults, NoFaultIn, MayImage}
 use Rattle.gw_interp.proofs.Lists.{found_test, found_all}
 use Rattle.gw_interp.proofs.Shaped.{text_there}
 use Rattle.gw_interp.proofs.Made.{comp_is, sub_is}
+use Rattle.gw_interp.proofs.Makers.{of_maker}
 use Rattle.gw_interp.proofs.Bounded.{Decided, bound, sum_of, found_bounded, text_bounded, rep_if}
 use Rattle.gw_interp.proofs.Chosen.{chosen_there, first_chosen_if, counted_low, HasNth, chosen_number_if}
 use Rattle.gw_interp.proofs.Tabled.{places_to, among_places, tabled, tabled_name, tabled_text, tabled_segment}
@@ -84,13 +85,13 @@ making_text w (repeat from (Some chosen) leaves) sound r c k =
 making_text w (repeat from None leaves) sound r c k =
     where_text (RepAt (texts_at w.message w.scope from.place) from.field r) (AtMeans (walking w from r) (leaf_at leaves c k)) (rep_if (texts_at w.message w.scope from.place) from.field r) (λ h. at_text (walking w from r) leaves (sound r h) c k)
 making_text w (build leaves) sound r c k = where_text (r ≡ 1) (AtMeans w (leaf_at leaves c k)) (one_if r) (λ h. at_text w leaves sound c k)
+making_text w (the_rest from listed taken) sound r c k = ([], refl)
 
-rule_text : (w : Walked) (rules : List Rule) → AllByRecursion (λ (r : Rule). NoFaultIn w r.making) rules → (f r c k : ℕ) → Exists (RuleMeans w (rule_of rules f) r c k)
-rule_text w rules sound f r c k = by (rule_of rules f) refl
-  where
-    by : (o : Option Rule) → rule_of rules f ≡ o → Exists (RuleMeans w o r c k)
-    by None e = ([], refl)
-    by (Some q) e = making_text w q.making (found_all (λ (p : Rule). p.field == f) (λ (p : Rule). NoFaultIn w p.making) rules q e sound) r c k
+rule_text : (w : Walked) (rules : List Rule) → AllByRecursion (λ (r : Rule). NoFaultIn w r.making) rules → (f r c k : ℕ) → Exists (RuleMeans w (maker_of rules f) r c k)
+rule_text w rules sound f r c k =
+    of_maker (λ o. Exists (RuleMeans w o r c k)) rules f ([], refl)
+    (λ q e. making_text w q.making (found_all (λ (p : Rule). p.field == f) (λ (p : Rule). NoFaultIn w p.making) rules q e sound) r c k)
+    (λ q from listed is. (text_of (texts_at w.message w.scope from) f r c k, refl))
 
 -- ---- and there are finitely many
 
@@ -111,6 +112,7 @@ making_bound w (copy from) = bound (texts_at w.message w.scope from.place)
 making_bound w (first from chosen) = 1 + bound (texts_at w.message w.scope from.place)
 making_bound w (repeat from chosen leaves) = bound (texts_at w.message w.scope from.place) + leaves_bound leaves
 making_bound w (build leaves) = 1 + leaves_bound leaves
+making_bound w (the_rest from listed taken) = bound (texts_at w.message w.scope from)
 
 making_bounded : (w : Walked) (making : Making) (r c k : ℕ) (text : List ℕ) → MakingMeans w making r c k text → 0 < length text → r + (c + k) ≤ making_bound w making
 making_bounded w (copy from) r c k text means lt =
@@ -147,16 +149,22 @@ making_bounded w (build leaves) r c k text means lt = by means
     by : Where (r ≡ 1) (AtMeans w (leaf_at leaves c k)) text → r + (c + k) ≤ making_bound w (build leaves)
     by (inl h) = let low = at_bounded w leaves c k text h.1 lt in omega (arith, h.0, low)
     by (inr h) = absurd (text_there text lt h.1)
+making_bounded w (the_rest from listed taken) r c k text means lt = absurd (text_there text lt means)
 
 abbrev rules_bound : Walked → List Rule → ℕ
 rules_bound w = sum_of (λ (q : Rule). q.field + making_bound w q.making)
 
-rule_bounded : (w : Walked) (rules : List Rule) (f r c k : ℕ) (text : List ℕ) → RuleMeans w (rule_of rules f) r c k text → 0 < length text → f + (r + (c + k)) ≤ rules_bound w rules
-rule_bounded w rules f r c k text means lt = by (rule_of rules f) refl means
+rule_bounded : (w : Walked) (rules : List Rule) (f r c k : ℕ) (text : List ℕ) → RuleMeans w (maker_of rules f) r c k text → 0 < length text → f + (r + (c + k)) ≤ rules_bound w rules
+rule_bounded w rules f r c k text means lt =
+    of_maker (λ o. RuleMeans w o r c k text → f + (r + (c + k)) ≤ rules_bound w rules) rules f (λ h. absurd (text_there text lt h)) own
+    (λ q from listed is h.
+    let all : q.field + making_bound w q.making ≤ rules_bound w rules = found_bounded (λ (p : Rule). p.field + making_bound w p.making) (λ (p : Rule). p.field == 0) rules q is.found in
+    let whole : making_bound w q.making ≡ bound (texts_at w.message w.scope from) = ap (making_bound w) is.making in
+    let low : f + (r + (c + k)) ≤ bound (texts_at w.message w.scope from) = text_bounded (texts_at w.message w.scope from) f r c k (subst (λ t. 0 < length t) h lt) in
+    omega (arith, all, whole, low)) means
   where
-    by : (o : Option Rule) → rule_of rules f ≡ o → RuleMeans w o r c k text → f + (r + (c + k)) ≤ rules_bound w rules
-    by None e h = absurd (text_there text lt h)
-    by (Some q) e h =
+    own : (q : Rule) → rule_of rules f ≡ Some q → RuleMeans w (Some q) r c k text → f + (r + (c + k)) ≤ rules_bound w rules
+    own q e h =
         let field : q.field ≡ f = (Decides-eqb q.field f).0 (found_test (λ (p : Rule). p.field == f) rules q e) in
         let all : q.field + making_bound w q.making ≤ rules_bound w rules = found_bounded (λ (p : Rule). p.field + making_bound w p.making) (λ (p : Rule). p.field == f) rules q e in
         let low : r + (c + k) ≤ making_bound w q.making = making_bounded w q.making r c k text h lt in
@@ -178,7 +186,7 @@ module _ (w : Walked) (name : List ℕ) (rules : List Rule) (may : MayImage w na
   text_for (f ∷ r ∷ c ∷ k ∷ []) = (rule_text w rules may.no_faults f r c k).0
   text_for (f ∷ r ∷ c ∷ k ∷ n ∷ key) = []
 
-  text_means : (f r c k : ℕ) → RuleMeans w (rule_of rules f) r c k (text_for (f ∷ r ∷ c ∷ k ∷ []))
+  text_means : (f r c k : ℕ) → RuleMeans w (maker_of rules f) r c k (text_for (f ∷ r ∷ c ∷ k ∷ []))
   unfolding text_for
   text_means f r c k = (rule_text w rules may.no_faults f r c k).1
 
@@ -221,7 +229,7 @@ module _ (w : Walked) (name : List ℕ) (rules : List Rule) (may : MayImage w na
   image_made = record {
     image = record {
       named = tabled_name text_for name places;
-      texts = λ f r c k. subst (RuleMeans w (rule_of rules f) r c k) (sym (tabled_text text_for name places among (f ∷ r ∷ c ∷ k ∷ []))) (text_means f r c k);
+      texts = λ f r c k. subst (RuleMeans w (maker_of rules f) r c k) (sym (tabled_text text_for name places among (f ∷ r ∷ c ∷ k ∷ []))) (text_means f r c k);
     };
     lawful = λ is. tabled_segment text_for name entry (subst IsName (tabled_name text_for name places) is) places;
   }

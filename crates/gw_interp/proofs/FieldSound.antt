@@ -16,7 +16,7 @@ use Rattle.gw_resolve.specs.Intervals.{Interval, once, is_never, is_within}
 use Rattle.gw_resolve.specs.Places.{known}
 use Rattle.gw_resolve.specs.Failures.{Mark, fails}
 use Rattle.gw_maplang.specs.Shapes.{Condition}
-use Rattle.gw_resolve.specs.Resolved.{Reference, At, leaf_at, Making, copy, first, repeat, build, Rule, rule_of}
+use Rattle.gw_resolve.specs.Resolved.{Reference, At, leaf_at, Making, copy, first, repeat, build, the_rest, Rule, rule_of, maker_of}
 use Rattle.gw_leaves.specs.Leaves.{Sources, at_field}
 use Rattle.gw_leaves.specs.Counts as counts
 use Rattle.gw_leaves.specs.Counts.{making_count, rule_count}
@@ -26,6 +26,7 @@ use Rattle.gw_resolve.specs.Lawful.{LawfulMaking, LawfulRule, LawfulRules}
 use Rattle.gw_interp.specs.Occurrences.{texts_at}
 use Rattle.gw_interp.specs.Meaning.{IsNth, IsChosen, InNth, Walked, walking, AtMeans, Where, MakingMeans, RuleMeans, IsImage}
 use Rattle.gw_interp.specs.own.Ready.{NoFaultIn}
+use Rattle.gw_interp.proofs.Makers.{own_rules}
 use Rattle.gw_interp.proofs.Walks.{IsWalked}
 use Rattle.gw_interp.proofs.Lists.{all_as, all_with, found_all, none_fails, both_empty, four_empty, each_empty}
 use Rattle.gw_interp.proofs.Shaped.{text_there}
@@ -99,6 +100,7 @@ module _ (names : List (List ℕ)) (s : Sources) (w : Walked) (has : HasTables n
   making_counted (repeat from None leaves) lawful means =
       made_counted names (counts.walking s from) has (RepAt (texts_at w.message w.scope from.place) from.field) (walking w from) (walked_on names s w has is from) true leaves lawful m number means (counts.field_count s from)
       (source_counted names s.profile has (known s.scope from.place) (texts_at w.message w.scope from.place) (is.places from.place) from.field)
+  making_counted (the_rest from listed taken) lawful means = never_counted (RepAt m number) (λ r at. text_there _ at.1.1 (means r at.0 at.1.0))
   making_counted (build leaves) lawful means = made_counted names s has (λ r. r ≡ 1) (λ r. w) (λ r e. is) false leaves lawful m number means once one_once
 
   rule_counted : (o : Option Rule) → IfSome o (λ r. LawfulMaking r.making) → ((r c k : ℕ) → RuleMeans w o r c k (text_of m number r c k)) → IsCounted (RepAt m number) (rule_count s o)
@@ -122,6 +124,7 @@ module _ (names : List (List ℕ)) (s : Sources) (w : Walked) (has : HasTables n
         (λ r c k. numbered_means w from chosen leaves r c k (text_of m number r c k) (means r c k)) target_names to mark target lawful_field none r at
     making_kept (repeat from None leaves) lawful means none =
         comps_made names (counts.walking s from) has (RepAt (texts_at w.message w.scope from.place) from.field) (walking w from) (walked_on names s w has is from) true leaves lawful m number means target_names to mark target lawful_field none r at
+    making_kept (the_rest from listed taken) lawful means none = λ spot b. text_there _ at.1.1 (means r at.0 at.1.0)
     making_kept (build leaves) lawful means none =
         comps_made names s has (λ r. r ≡ 1) (λ r. w) (λ r e. is) false leaves lawful m number means target_names to mark target lawful_field none r at
 
@@ -170,12 +173,20 @@ module _ (to : ProfileValue) (m : Texts) (holder : ℕ) (i : Interval) (o : Opti
 -- ---- a segment
 
 module _ (s : Sources) (w : Walked) (is : IsWalked (table_names s.profile.tables) s w) (to : ProfileValue) (holder : ℕ) (rules : List Rule) (fields : List FieldValue) (none : segment_failures s to holder rules fields ≡ []) where
+  -- its own rule alone makes it
+  abbrev Own : FieldValue → Type 0
+  Own f = maker_of rules f.number ≡ rule_of rules f.number
+
+  abbrev Listed : List (List ℕ) → FieldValue → Type 0
+  Listed names f = LawfulField names f × Own f
+
   -- a segment that the rules give breaks none of the target's fields
-  pub field_sound : (names : List (List ℕ)) (name : List ℕ) → AllByRecursion (LawfulField names) fields → LawfulRules name rules → (seg : SegmentValue) → IsImage w name rules seg → Meets to fields seg.at
+  pub field_sound : (names : List (List ℕ)) (name : List ℕ) → AllByRecursion (LawfulField names) fields → LawfulRules name fields rules → (seg : SegmentValue) → IsImage w name rules seg → Meets to fields seg.at
   field_sound names name lawful_fields lawful seg image =
       none_broken (λ (f : FieldValue). f.number) (FieldBreach to seg.at) fields
-      (all_with (LawfulField names) (λ (f : FieldValue). field_failures s to holder rules f ≡ []) (λ (f : FieldValue). (spot : List ℕ) → FieldBreach to seg.at f spot → ⊥)
-      (λ f l e. each f l (both_empty (count_failures holder (rule_count s (rule_of rules f.number)) f (rule_of rules f.number)) (content_failures s to f (rule_of rules f.number)) e)) fields lawful_fields
+      (all_with (Listed names) (λ (f : FieldValue). field_failures s to holder rules f ≡ []) (λ (f : FieldValue). (spot : List ℕ) → FieldBreach to seg.at f spot → ⊥)
+      (λ f l e. each f l (both_empty (count_failures holder (rule_count s (rule_of rules f.number)) f (rule_of rules f.number)) (content_failures s to f (rule_of rules f.number)) e)) fields
+      (all_with (LawfulField names) Own (Listed names) (λ f l e. (l, e)) fields lawful_fields (own_rules name fields rules lawful))
       (each_empty (field_failures s to holder rules) fields (both_empty (flat_map (field_failures s to holder rules) fields) (flat_map (rule_lookups s) rules) none).0))
     where
       has : HasTables (table_names s.profile.tables) s.profile.tables
@@ -183,14 +194,15 @@ module _ (s : Sources) (w : Walked) (is : IsWalked (table_names s.profile.tables
 
       lawful_rule : (field : ℕ) (o : Option Rule) → rule_of rules field ≡ o → IfSome o (λ r. LawfulMaking r.making)
       lawful_rule field None e = tt
-      lawful_rule field (Some r) e = (found_all (λ (q : Rule). q.field == field) (LawfulRule name) rules r e lawful.each).making
+      lawful_rule field (Some r) e = (found_all (λ (q : Rule). q.field == field) (LawfulRule name fields) rules r e lawful.each).making
 
-      each : (f : FieldValue) → LawfulField names f → (count_failures holder (rule_count s (rule_of rules f.number)) f (rule_of rules f.number) ≡ []) × (content_failures s to f (rule_of rules f.number) ≡ []) → (spot : List ℕ) → FieldBreach to seg.at f spot → ⊥
+      each : (f : FieldValue) → Listed names f → (count_failures holder (rule_count s (rule_of rules f.number)) f (rule_of rules f.number) ≡ []) × (content_failures s to f (rule_of rules f.number) ≡ []) → (spot : List ℕ) → FieldBreach to seg.at f spot → ⊥
       each f l parts =
           let lawful_making = lawful_rule f.number (rule_of rules f.number) refl in
+          let texts : (r c k : ℕ) → RuleMeans w (rule_of rules f.number) r c k (text_of seg.at f.number r c k) = λ r c k. subst (λ o. RuleMeans w o r c k (text_of seg.at f.number r c k)) l.1 (image.texts f.number r c k) in
           field_unbroken to seg.at holder (rule_count s (rule_of rules f.number)) (rule_of rules f.number) f
-          (rule_counted (table_names s.profile.tables) s w has is seg.at f.number (rule_of rules f.number) lawful_making (image.texts f.number)) parts.0
-          (rule_kept (table_names s.profile.tables) s w has is seg.at f.number names to f l (rule_of rules f.number) lawful_making (image.texts f.number) parts.1)
+          (rule_counted (table_names s.profile.tables) s w has is seg.at f.number (rule_of rules f.number) lawful_making texts) parts.0
+          (rule_kept (table_names s.profile.tables) s w has is seg.at f.number names to f l.0 (rule_of rules f.number) lawful_making texts parts.1)
 
   -- and none of their leaves is a fault
   pub no_faults : AllByRecursion (λ (r : Rule). NoFaultIn w r.making) rules

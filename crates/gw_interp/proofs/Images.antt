@@ -21,10 +21,12 @@ use Rattle.gw_validate.specs.Conforming.{segment_at}
 use Rattle.gw_validate.proofs.Nexts.{some_counted}
 use Rattle.gw_maplang.specs.declared.rule.DateDigits.{DateDigits}
 use Rattle.gw_resolve.specs.Places.{Place}
-use Rattle.gw_resolve.specs.Resolved.{Source, of_field, of_current, Leaf, const, copied, looked_up, dated, Alternative, At, alternatives, leaf_at, Making, copy, first, repeat, build, Rule, rule_of}
-use Rattle.gw_resolve.specs.Lawful.{LawfulSource, LawfulLeaf, LawfulAt, LawfulLeaves, LawfulMaking, LawfulRule, LawfulRules}
+use Rattle.gw_resolve.specs.Resolved.{Source, of_field, of_current, Leaf, const, copied, looked_up, dated, Alternative, At, alternatives, leaf_at, Making, copy, first, repeat, build, the_rest, Rule, rule_of, maker_of}
+use Rattle.gw_resolve.specs.Lawful.{LawfulSource, LawfulLeaf, LawfulAt, LawfulLeaves, LawfulMaking, LawfulFor, LawfulRule, LawfulRules}
 use Rattle.gw_interp.specs.Occurrences.{Occurrence, a_segment, nodes, at_place, texts_of_first, texts_at}
 use Rattle.gw_interp.specs.Meaning.{InFirst, InFirstOf, IsChosen, InNth, Walked, walking, SourceMeans, is_asked, starts_with, longest, date_lengths, first_digits, LeafMeans, FirstText, AtMeans, Where, MakingMeans, RuleMeans}
+use Rattle.gw_profile.specs.Shapes.{FieldValue}
+use Rattle.gw_interp.proofs.Makers.{of_maker}
 use Rattle.gw_interp.proofs.Lists.{found_test, found_all}
 use Rattle.gw_interp.proofs.Shaped.{text_there}
 use Rattle.gw_interp.proofs.Leaves.{given_value, LooksUp, of_none, of_null, of_value, looks_up}
@@ -214,19 +216,39 @@ module _ (w : Walked) (places : (place : Place) → AreEntries 1 (texts_at w.mes
       by : Where (r ≡ 1) (AtMeans w (leaf_at leaves c k)) text → IsPlaced r c k text
       by (inl h) = leaf_placed w places false (λ e. absurd (cc)) leaves lawful r c k (omega (arith, h.0)) text h.1 lt
       by (inr h) = absurd (text_there text lt h.1)
+  making_placed (the_rest from listed taken) lawful r c k text means lt = absurd (text_there text lt means)
 
-  pub rule_entry : (name : List ℕ) (rule : Rule) → LawfulRule name rule → (r c k : ℕ) (text : List ℕ) → MakingMeans w rule.making r c k text → 0 < length text → IsEntry (first_field name) (rule.field ∷ r ∷ c ∷ k ∷ [], text)
-  rule_entry name rule lawful r c k text means lt =
+  -- a rule that gives a text isn't the rest
+  own_field : (name : List ℕ) (fields : List FieldValue) (making : Making) (field : ℕ) → LawfulFor name fields making field → (r c k : ℕ) (text : List ℕ) → MakingMeans w making r c k text → 0 < length text → first_field name ≤ field
+  own_field name fields (copy from) field lawful r c k text means lt = lawful
+  own_field name fields (first from chosen) field lawful r c k text means lt = lawful
+  own_field name fields (repeat from chosen leaves) field lawful r c k text means lt = lawful
+  own_field name fields (build leaves) field lawful r c k text means lt = lawful
+  own_field name fields (the_rest from listed taken) field lawful r c k text means lt = absurd (text_there text lt means)
+
+  pub rule_entry : (name : List ℕ) (fields : List FieldValue) (rule : Rule) → LawfulRule name fields rule → (r c k : ℕ) (text : List ℕ) → MakingMeans w rule.making r c k text → 0 < length text → IsEntry (first_field name) (rule.field ∷ r ∷ c ∷ k ∷ [], text)
+  rule_entry name fields rule lawful r c k text means lt =
       let placed = making_placed rule.making lawful.making r c k text means lt in
-      entry_at (first_field name) rule.field r c k text lawful.field (omega (arith, some_field name, lawful.field)) placed.rep placed.comp placed.sub placed.canonical lt
+      let low : first_field name ≤ rule.field = own_field name fields rule.making rule.field lawful.field r c k text means lt in
+      entry_at (first_field name) rule.field r c k text low (omega (arith, some_field name, low)) placed.rep placed.comp placed.sub placed.canonical lt
+
+  -- and so of a field of the rest
+  same_entry : (name : List ℕ) (place : Place) (f r c k : ℕ) (text : List ℕ) → (1 ≤ f → first_field name ≤ f) → text ≡ text_of (texts_at w.message w.scope place) f r c k → 0 < length text → IsEntry (first_field name) (f ∷ r ∷ c ∷ k ∷ [], text)
+  same_entry name place f r c k text low means lt =
+      let entry = places place f r c k (subst (λ t. 0 < length t) means lt) in
+      entry_at (first_field name) f r c k text (low entry.key.positive.0) entry.key.positive.0 entry.key.positive.1.0 entry.key.positive.1.1.0 entry.key.positive.1.1.1.0 (subst IsCanonical (sym means) entry.text) lt
 
   -- each text that the rules give may stand at its place
-  pub rules_entry : (name : List ℕ) (rules : List Rule) → LawfulRules name rules → (f r c k : ℕ) (text : List ℕ) → RuleMeans w (rule_of rules f) r c k text → 0 < length text → IsEntry (first_field name) (f ∷ r ∷ c ∷ k ∷ [], text)
-  rules_entry name rules lawful f r c k text means lt = by (rule_of rules f) refl means
+  pub rules_entry : (name : List ℕ) (fields : List FieldValue) (rules : List Rule) → LawfulRules name fields rules → (f r c k : ℕ) (text : List ℕ) → RuleMeans w (maker_of rules f) r c k text → 0 < length text → IsEntry (first_field name) (f ∷ r ∷ c ∷ k ∷ [], text)
+  rules_entry name fields rules lawful f r c k text means lt =
+      of_maker (λ o. RuleMeans w o r c k text → IsEntry (first_field name) (f ∷ r ∷ c ∷ k ∷ [], text)) rules f (λ h. absurd (text_there _ lt h)) own
+      (λ rule from listed is h.
+      let one : LawfulRule name fields rule = found_all (λ (q : Rule). q.field == 0) (LawfulRule name fields) rules rule is.found lawful.each in
+      let whole : LawfulFor name fields (the_rest from listed is.taken) rule.field = subst (λ m. LawfulFor name fields m rule.field) is.making one.field in
+      same_entry name from f r c k text (λ some. whole.1.others f some is.others) h lt) means
     where
-      by : (o : Option Rule) → rule_of rules f ≡ o → RuleMeans w o r c k text → IsEntry (first_field name) (f ∷ r ∷ c ∷ k ∷ [], text)
-      by None e means = absurd (text_there _ lt means)
-      by (Some rule) e means =
-          let is : LawfulRule name rule = found_all (λ (q : Rule). q.field == f) (LawfulRule name) rules rule e lawful.each in
+      own : (rule : Rule) → rule_of rules f ≡ Some rule → RuleMeans w (Some rule) r c k text → IsEntry (first_field name) (f ∷ r ∷ c ∷ k ∷ [], text)
+      own rule e means =
+          let is : LawfulRule name fields rule = found_all (λ (q : Rule). q.field == f) (LawfulRule name fields) rules rule e lawful.each in
           let field : rule.field ≡ f = (Decides-eqb rule.field f).0 (found_test (λ (q : Rule). q.field == f) rules rule e) in
-          subst (λ n. IsEntry (first_field name) (n ∷ r ∷ c ∷ k ∷ [], text)) field (rule_entry name rule is r c k text means lt)
+          subst (λ n. IsEntry (first_field name) (n ∷ r ∷ c ∷ k ∷ [], text)) field (rule_entry name fields rule is r c k text means lt)

@@ -16,7 +16,7 @@ use Rattle.gw_maplang.specs.Shapes.{Row, Rows, second_of}
 use Rattle.gw_maplang.specs.Lawful.{LawfulRow}
 use Rattle.gw_resolve.specs.Failures.{Mark}
 use Rattle.gw_resolve.specs.Places.{known}
-use Rattle.gw_resolve.specs.Resolved.{Reference, Source, Leaf, const, copied, looked_up, dated, Alternative, At, alternatives, Making, copy, first, repeat, build, Rule}
+use Rattle.gw_resolve.specs.Resolved.{Reference, Source, Leaf, const, copied, looked_up, dated, Alternative, At, alternatives, Making, copy, first, repeat, build, the_rest, Rule}
 use Rattle.gw_leaves.specs.declared.shape.Presence.{Presence}
 use Rattle.gw_leaves.specs.declared.shape.Presence.TheVariants.{Always, Maybe, Never}
 use Rattle.gw_leaves.specs.Leaves.{Values, any, listed, IsOf, Sources, at_field, or_otherwise, given, given_values, has_no_row, source_shape, is_always, is_absent, perhaps, leaf_shape}
@@ -288,6 +288,7 @@ module _ (names : List (List ℕ)) (s : Sources) (w : Walked) (has : HasTables n
       by : (making : Making) → rule_lookups s (record r { making = making }) ≡ [] → NoFaultIn w making
       by (copy from) none = tt
       by (first from chosen) none = tt
+      by (the_rest from _ _) none = tt
       by (repeat from chosen leaves) none = λ rep is_chosen.
           all_as (λ (a : At). lookup_failures (counts.walking s from) r.field a ≡ []) (λ (a : At). NoFaultOf (walking w from rep) (alternatives a))
           (λ a e. no_fault names (counts.walking s from) (walking w from rep) has (walked_on names s w has is from rep (chosen_there chosen (texts_at w.message w.scope from.place) from.field rep is_chosen)) r.field a e) leaves (each_empty (lookup_failures (counts.walking s from) r.field) leaves none)

@@ -114,7 +114,7 @@ module _ (from to : ProfileValue) (from_names names : List (List ℕ)) (m : List
   abbrev pub FieldsSound : Type 0
   FieldsSound =
       (es : List Element) (os : List Occurrence) (holder low : ℕ) (name : List ℕ) (rules : List Rule) (fields : List FieldValue) (s : SegmentValue) →
-      Scoped from from_names m es os → Rising low 999 (field_numbers fields) → AllByRecursion (LawfulField names) fields → LawfulRules name rules →
+      Scoped from from_names m es os → Rising low 999 (field_numbers fields) → AllByRecursion (LawfulField names) fields → LawfulRules name fields rules →
       segment_failures (sources from es) to holder rules fields ≡ [] → Image (walked m os) name rules s → (s.name ≡ name) × meets fields s
 
   -- a list is one occurrence of the node
@@ -148,10 +148,10 @@ module _ (from to : ProfileValue) (from_names names : List (List ℕ)) (m : List
 
   module _ (sound : FieldsSound) where
     -- a segment for the node of this number
-    one_segment : (es : List Element) (os : List Occurrence) (line j : ℕ) (nodes : Forest) (rules : List Rule) (list : List SegmentValue) → Scoped from from_names m es os → LawfulNodes names nodes → LawfulRules (name_of (child nodes j)) rules → is_segment (child nodes j) ≡ true → segment_failures (sources from es) to line rules (fields_of (child nodes j)) ≡ [] → IsOne (Image (walked m os) (name_of (child nodes j)) rules) list → Part (child nodes j) list
+    one_segment : (es : List Element) (os : List Occurrence) (line j : ℕ) (nodes : Forest) (rules : List Rule) (list : List SegmentValue) → Scoped from from_names m es os → LawfulNodes names nodes → LawfulRules (name_of (child nodes j)) (fields_of (child nodes j)) rules → is_segment (child nodes j) ≡ true → segment_failures (sources from es) to line rules (fields_of (child nodes j)) ≡ [] → IsOne (Image (walked m os) (name_of (child nodes j)) rules) list → Part (child nodes j) list
     one_segment es os line j nodes rules list h l r k f o = go (child nodes j) refl r k f o
       where
-        go : (c : Option Element) → child nodes j ≡ c → LawfulRules (name_of c) rules → is_segment c ≡ true → segment_failures (sources from es) to line rules (fields_of c) ≡ [] → IsOne (Image (walked m os) (name_of c) rules) list → Part c list
+        go : (c : Option Element) → child nodes j ≡ c → LawfulRules (name_of c) (fields_of c) rules → is_segment c ≡ true → segment_failures (sources from es) to line rules (fields_of c) ≡ [] → IsOne (Image (walked m os) (name_of c) rules) list → Part c list
         go None e r k f o = absurd (cc)
         go (Some (a_group g inner)) e r k f o = absurd (cc)
         go (Some (the_whole inner)) e r k f o = absurd (cc)
@@ -173,7 +173,7 @@ module _ (from to : ProfileValue) (from_names names : List (List ℕ)) (m : List
             subst (λ f. Seq (λ x. x.name) meets f list) there (seq (subst (LawfulNodes names) (sym there) (lawful_group nodes k g inner l same)))
 
     -- the segments of one item
-    segments_given : (es : List Element) (os : List Occurrence) (line j : ℕ) (condition : Option FieldCondition) (place : Option Place) (nodes : Forest) (rules : List Rule) (list : List SegmentValue) → Scoped from from_names m es os → LawfulNodes names nodes → LawfulRules (name_of (child nodes j)) rules → is_segment (child nodes j) ≡ true → segment_failures (sources from (within_if es place)) to line rules (fields_of (child nodes j)) ≡ [] → SegmentsBy Image m os (name_of (child nodes j)) rules condition place list → Given (Part (child nodes j)) (chosen_count condition (count_if es place)) list
+    segments_given : (es : List Element) (os : List Occurrence) (line j : ℕ) (condition : Option FieldCondition) (place : Option Place) (nodes : Forest) (rules : List Rule) (list : List SegmentValue) → Scoped from from_names m es os → LawfulNodes names nodes → LawfulRules (name_of (child nodes j)) (fields_of (child nodes j)) rules → is_segment (child nodes j) ≡ true → segment_failures (sources from (within_if es place)) to line rules (fields_of (child nodes j)) ≡ [] → SegmentsBy Image m os (name_of (child nodes j)) rules condition place list → Given (Part (child nodes j)) (chosen_count condition (count_if es place)) list
     segments_given es os line j condition None nodes rules list h l r k f o =
         maybe_fewer (Part (child nodes j)) condition once list (given_one (Part (child nodes j)) list (one_segment es os line j nodes rules list h l r k f o))
     segments_given es os line j condition (Some place) nodes rules list h l r k f o =

@@ -30,6 +30,7 @@ pub mod Checked
 pub mod Bounded
 pub mod Chosen
 pub mod Tabled
+pub mod Makers
 pub mod Existing
 pub mod Makes
 mod Borrowing
@@ -42,6 +43,7 @@ mod Placed
 mod Ruled
 mod ChosenReps
 mod RuleByRule
+mod Remainder
 mod Giving
 mod Levels
 mod Weights

@@ -13,7 +13,7 @@ use Rattle.gw_profile.specs.Shapes.{Forest, ProfileValue}
 use Rattle.gw_validate.specs.Cuts.{Cut}
 use Rattle.gw_validate.specs.Trees.{Tree}
 use Rattle.gw_resolve.specs.Places.{Place, child, nodes_of_child, name_of}
-use Rattle.gw_resolve.specs.Resolved.{FieldCondition, Source, of_field, of_current, Leaf, const, copied, looked_up, dated, Alternative, At, alternatives, leaf_at, Making, copy, first, repeat, build, Rule, rule_of, Items, no_items, segment_item, group_item, flat_item, Resolved}
+use Rattle.gw_resolve.specs.Resolved.{FieldCondition, Source, of_field, of_current, Leaf, const, copied, looked_up, dated, Alternative, At, alternatives, leaf_at, Making, copy, first, repeat, build, the_rest, Rule, maker_of, Items, no_items, segment_item, group_item, flat_item, Resolved}
 use Rattle.gw_interp.specs.Occurrences as occurrences
 use Rattle.gw_interp.specs.Occurrences.{Occurrence, at_place, texts_at}
 use Rattle.gw_interp.specs.Meaning.{IsFirst, InFirstOf, IsChosen, InNth, Walked, SourceMeans, look_up, first_digits, LeafMeans, FirstText, AtMeans, Where, walking, MakingMeans, RuleMeans, IsImage, ForEach, IsOne, walked, chosen, Segments, Give, Means}
@@ -87,6 +87,7 @@ making_once w (repeat from (Some chosen) leaves) r c k x y h g =
     number_text_once (IsChosen (Some chosen) (texts_at w.message w.scope from.place) from.field) r (λ n. AtMeans (walking w from n) (leaf_at leaves c k))
     (λ n. at_once (walking w from n) (leaf_at leaves c k)) x y h g
 making_once w (build leaves) r c k x y h g = where_once _ _ (at_once w (leaf_at leaves c k)) x y h g
+making_once w (the_rest from listed taken) r c k x y h g = h ∙ sym g
 
 rule_once : (w : Walked) (rule : Option Rule) (r c k : ℕ) → AtMostOne (RuleMeans w rule r c k)
 rule_once w None r c k x y h g = h ∙ sym g
@@ -117,7 +118,7 @@ same_segment a b p q name same =
 
 image_once : (w : Walked) (name : List ℕ) (rules : List Rule) (a b : SegmentValue) → IsSegment a → IsSegment b → IsImage w name rules a → IsImage w name rules b → a ≡ b
 image_once w name rules a b p q h g =
-    same_segment a b p q (h.named ∙ sym g.named) (λ f r c k. rule_once w (rule_of rules f) r c k (text_of a.at f r c k) (text_of b.at f r c k) (h.texts f r c k) (g.texts f r c k))
+    same_segment a b p q (h.named ∙ sym g.named) (λ f r c k. rule_once w (maker_of rules f) r c k (text_of a.at f r c k) (text_of b.at f r c k) (h.texts f r c k) (g.texts f r c k))
 
 -- ---- at most one list
 

@@ -29,15 +29,16 @@ module _ (from to : ProfileValue) (m : List SegmentValue) (is_message : IsMessag
   abbrev Walks : List Element → List Occurrence → Type 0
   Walks = Scoped from (table_names from.tables) m
 
-  image_ready : (es : List Element) (os : List Occurrence) (holder : ℕ) (name : List ℕ) (rules : List Rule) (fields : List FieldValue) → Walks es os → LawfulRules name rules → segment_failures (sources from es) to holder rules fields ≡ [] → MayImage (walked m os) name rules
+  image_ready : (es : List Element) (os : List Occurrence) (holder : ℕ) (name : List ℕ) (rules : List Rule) (fields : List FieldValue) → Walks es os → LawfulRules name fields rules → segment_failures (sources from es) to holder rules fields ≡ [] → MayImage (walked m os) name rules
   image_ready es os holder name rules fields h lawful none =
       record {
+        target = fields;
         lawful = lawful;
-        entries = λ field rep comp sub text means some. rules_entry (walked m os) (place_entries m is_message os) name rules lawful field rep comp sub text means some;
+        entries = λ field rep comp sub text means some. rules_entry (walked m os) (place_entries m is_message os) name fields rules lawful field rep comp sub text means some;
         no_faults = no_faults (sources from es) (walked m os) (walked_known from (table_names from.tables) m es os h) to holder rules fields none;
       }
 
-  segments_ready : (es : List Element) (os : List Occurrence) (holder : ℕ) (name : List ℕ) (rules : List Rule) (fields : List FieldValue) (condition : Option FieldCondition) (place : Option Place) → Walks es os → LawfulRules name rules → segment_failures (sources from (within_if es place)) to holder rules fields ≡ [] → MaySegments m os name rules condition place
+  segments_ready : (es : List Element) (os : List Occurrence) (holder : ℕ) (name : List ℕ) (rules : List Rule) (fields : List FieldValue) (condition : Option FieldCondition) (place : Option Place) → Walks es os → LawfulRules name fields rules → segment_failures (sources from (within_if es place)) to holder rules fields ≡ [] → MaySegments m os name rules condition place
   segments_ready es os holder name rules fields condition None h lawful none = image_ready es os holder name rules fields h lawful none
   segments_ready es os holder name rules fields condition (Some place) h lawful none =
       all_as (IsOccurrence from m (element_of (found es place))) (λ o. MayImage (walked m (o ∷ os)) name rules)

@@ -12,11 +12,11 @@ use Rattle.gw_er7.specs.Building.{IsBegun, with_last}
 use Rattle.gw_er7.proofs.Builds.{begun_segment}
 use Rattle.gw_maplang.specs.Among.{Among}
 use Rattle.gw_resolve.specs.Lawful.{LawfulRule}
-use Rattle.gw_resolve.specs.Resolved.{Rule, rule_of}
+use Rattle.gw_resolve.specs.Resolved.{Rule, rule_of, rest_of, or_rule, maker_of}
 use Rattle.gw_interp.specs.Meaning.{Walked, MakingMeans, RuleMeans, IsImage, IsOne}
 use Rattle.gw_interp.specs.own.Putting.{last_name, last_texts}
 use Rattle.gw_interp.specs.own.Ready.{NoFaultIn, MayImage, IsOtherName, MayBegin, Adds}
-use Rattle.gw_interp.specs.own.Making.{field_key, FieldMeans, fields, HasTexts, MayMakeRule, IsRuleMade, MayMakeRules, AreRulesMade}
+use Rattle.gw_interp.specs.own.Making.{field_key, FieldMeans, fields, HasTexts, MayMakeRule, IsRuleMade, MayMakeRules, AreRulesMade, MayRest, IsRestMade}
 use Rattle.gw_interp.proofs.Fills.{same_last}
 use Rattle.gw_interp.proofs.PutInTurn.{at_last}
 use Rattle.gw_interp.proofs.Lists.{found_test, found_all, found_each}
@@ -99,7 +99,7 @@ module _ (w : Walked) (name : List ℕ) (rules : List Rule) (old : List SegmentV
   found : AllByRecursion (λ (r : Rule). rule_of rules r.field ≡ Some r) rules
   found = found_each (λ (r : Rule). r.field) (λ n (r : Rule). r.field == n) (λ r. own_number r.field) (λ r s e. sym ((Decides-eqb s.field r.field).0 e)) rules may.lawful.distinct
 
-  may_each : (rs : List Rule) → AllByRecursion (LawfulRule name) rs → AllByRecursion (λ (r : Rule). rule_of rules r.field ≡ Some r) rs → AllByRecursion (λ (r : Rule). NoFaultIn w r.making) rs → AllByRecursion (λ r. MayMakeRule w r (old ++ begun name ∷ [])) rs
+  may_each : (rs : List Rule) → AllByRecursion (LawfulRule name may.target) rs → AllByRecursion (λ (r : Rule). rule_of rules r.field ≡ Some r) rs → AllByRecursion (λ (r : Rule). NoFaultIn w r.making) rs → AllByRecursion (λ r. MayMakeRule w r (old ++ begun name ∷ [])) rs
   may_each [] lawful is no_fault = tt
   may_each (r ∷ rs) lawful is no_fault = (one, may_each rs lawful.1 is.1 no_fault.1)
     where
@@ -113,7 +113,7 @@ module _ (w : Walked) (name : List ℕ) (rules : List Rule) (old : List SegmentV
               free = λ p. no_text old name (field_key r.field p);
               entry = λ p text means some.
                   subst (λ n. IsEntry (first_field n) (field_key r.field p, text)) (sym (behind_name old (begun name)))
-                  (may.entries r.field p.0 p.1.0 p.1.1 text (subst (λ o. RuleMeans w o p.0 p.1.0 p.1.1 text) (sym is.0) means) some);
+                  (may.entries r.field p.0 p.1.0 p.1.1 text (subst (λ o. RuleMeans w o p.0 p.1.0 p.1.1 text) (sym (ap (λ o. or_rule o (rest_of (rule_of rules 0) r.field)) is.0)) means) some);
             };
           }
 
@@ -125,23 +125,38 @@ module _ (w : Walked) (name : List ℕ) (rules : List Rule) (old : List SegmentV
   not_there (r ∷ rs) field e (inl same) = clash (r.field == field) ((Decides-eqb r.field field).1 (sym same)) (none_passes (λ (s : Rule). s.field == field) r rs e).0
   not_there (r ∷ rs) field e (inr h) = not_there rs field (none_passes (λ (s : Rule). s.field == field) r rs e).1 h
 
-  pub imaged : (new : List SegmentValue) → AreRulesMade w rules (old ++ begun name ∷ []) new → Adds (IsOne (IsImage w name rules)) old new
-  imaged new made =
+  -- what makes a field that has no rule
+  unruled : (field : ℕ) → rule_of rules field ≡ None → maker_of rules field ≡ rest_of (rule_of rules 0) field
+  unruled field e = ap (λ o. or_rule o (rest_of (rule_of rules 0) field)) e
+
+  pub may_rest : (mid : List SegmentValue) → AreRulesMade w rules (old ++ begun name ∷ []) mid → MayRest w rules mid
+  may_rest mid made =
+      record {
+        begun = begun_on (old ++ begun name ∷ []) mid made.others (behind_some old (begun name));
+        free = λ field e p. made.elsewhere field p (not_there rules field e) ∙ no_text old name (field_key field p);
+        entry = λ field e p text means some.
+            subst (λ n. IsEntry (first_field n) (field_key field p, text)) (sym (behind_name old (begun name)) ∙ name_on (old ++ begun name ∷ []) mid made.others)
+            (may.entries field p.0 p.1.0 p.1.1 text (subst (λ o. RuleMeans w o p.0 p.1.0 p.1.1 text) (sym (unruled field e)) means) some);
+      }
+
+  pub imaged : (mid new : List SegmentValue) → AreRulesMade w rules (old ++ begun name ∷ []) mid → IsRestMade w rules mid new → Adds (IsOne (IsImage w name rules)) old new
+  imaged mid new made rest =
       record {
         list = one ∷ [];
-        joined = made.others ∙ behind_last (at_last (last_texts new)) old (begun name);
+        joined = others_on (old ++ begun name ∷ []) mid new made.others rest.others ∙ behind_last (at_last (last_texts new)) old (begun name);
         holds = record { only = one; list_is = refl; holds = record { named = refl; texts = λ field rep comp sub. by field rep comp sub (rule_of rules field) refl } };
       }
     where
       one : SegmentValue
       one = record { name = name; at = last_texts new }
 
-      by : (field rep comp sub : ℕ) (o : Option Rule) → rule_of rules field ≡ o → RuleMeans w (rule_of rules field) rep comp sub (text_of (last_texts new) field rep comp sub)
+      by : (field rep comp sub : ℕ) (o : Option Rule) → rule_of rules field ≡ o → RuleMeans w (maker_of rules field) rep comp sub (text_of (last_texts new) field rep comp sub)
       by field rep comp sub None e =
-          subst (λ o. RuleMeans w o rep comp sub (text_of (last_texts new) field rep comp sub)) (sym e)
-          (ap (λ o. unwrap_or o []) (made.elsewhere field (rep, (comp, sub)) (not_there rules field e) ∙ no_text old name (field_key field (rep, (comp, sub)))))
+          subst (λ o. RuleMeans w o rep comp sub (text_of (last_texts new) field rep comp sub)) (sym (unruled field e))
+          (rest.each field e (rep, (comp, sub)))
       by field rep comp sub (Some r) e =
           let same : r.field ≡ field = (Decides-eqb r.field field).0 (found_test (λ (s : Rule). s.field == field) rules r e) in
-          subst (λ o. RuleMeans w o rep comp sub (text_of (last_texts new) field rep comp sub)) (sym e)
-          (subst (λ f. MakingMeans w r.making rep comp sub (text_of (last_texts new) f rep comp sub)) same
-          (found_all (λ (s : Rule). s.field == field) (HasTexts w new) rules r e made.each (rep, (comp, sub))))
+          subst (λ o. RuleMeans w o rep comp sub (text_of (last_texts new) field rep comp sub)) (sym (ap (λ o. or_rule o (rest_of (rule_of rules 0) field)) e))
+          (subst (λ o. MakingMeans w r.making rep comp sub (unwrap_or o [])) (sym (rest.ruled field r e (rep, (comp, sub))))
+          (subst (λ f. MakingMeans w r.making rep comp sub (text_of (last_texts mid) f rep comp sub)) same
+          (found_all (λ (s : Rule). s.field == field) (HasTexts w mid) rules r e made.each (rep, (comp, sub)))))

@@ -7,7 +7,8 @@ use Rattle.std.specs.FinMap as texts
 use Rattle.gw_er7.specs.Message.{Texts, text_of, SegmentValue}
 use Rattle.gw_er7.specs.Presence.{RepAt, IsLast}
 use Rattle.gw_maplang.specs.Shapes.{Condition}
-use Rattle.gw_resolve.specs.Resolved.{Reference, At, leaf_at, copy, first, repeat, build}
+use Rattle.gw_resolve.specs.Resolved.{Reference, At, leaf_at, copy, first, repeat, build, the_rest}
+use Rattle.gw_resolve.specs.Places.{Place}
 use Rattle.gw_interp.specs.Occurrences.{texts_at}
 use Rattle.gw_interp.specs.Meaning.{Walked, walking, AtMeans, InFirstOf, IsChosen, Where, MakingMeans}
 use Rattle.gw_interp.specs.own.Sourced.{IsFirstOne}
@@ -31,6 +32,10 @@ module _ (I : Type 0) (key : I → List ℕ) (Means Others : I → List ℕ → 
 pub nothing_made : (I : Type 0) (key : I → List ℕ) (Means : I → List ℕ → Type 0) (old : List SegmentValue) → MayMake I key Means old → ((i : I) → Means i []) → AreMade I key Means old old
 nothing_made I key Means old may none =
     record { others = same_last old; each = λ i. subst (Means i) (no_text_there old (key i) (may.free i)) (none i); elsewhere = λ k away. refl; keeps = λ h. h }
+
+-- the rest has no texts of its own
+pub rest_makes_nothing : (w : Walked) (from : Place) (listed taken : List ℕ) (field : ℕ) (old : List SegmentValue) → MayMakeBy w (the_rest from listed taken) field old → IsMadeBy w (the_rest from listed taken) field old old
+rest_makes_nothing w from listed taken field old may = nothing_made _ (field_key field) _ old may.make (λ p. refl)
 
 -- ---- repetition 1
 

@@ -12,7 +12,7 @@ use Rattle.gw_validate.specs.Trees.{Tree}
 use Rattle.gw_maplang.specs.declared.rule.DateDigits.{DateDigits}
 use Rattle.gw_maplang.specs.Shapes.{Rows, Condition}
 use Rattle.gw_resolve.specs.Places.{Place, child, nodes_of_child, name_of}
-use Rattle.gw_resolve.specs.Resolved.{Reference, FieldCondition, Source, of_field, of_current, Leaf, const, copied, looked_up, dated, Alternative, At, alternatives, leaf_at, Making, copy, first, repeat, build, Rule, rule_of, Items, no_items, segment_item, group_item, flat_item, Resolved}
+use Rattle.gw_resolve.specs.Resolved.{Reference, FieldCondition, Source, of_field, of_current, Leaf, const, copied, looked_up, dated, Alternative, At, alternatives, leaf_at, Making, copy, first, repeat, build, the_rest, Rule, maker_of, Items, no_items, segment_item, group_item, flat_item, Resolved}
 use Rattle.gw_leaves.specs.Leaves.{given}
 use Rattle.gw_interp.specs.Occurrences as occurrences
 use Rattle.gw_interp.specs.Occurrences.{Occurrence, at_place, texts_at}
@@ -129,6 +129,7 @@ MakingMeans w (repeat from None leaves) rep comp sub text =
 MakingMeans w (repeat from (Some c) leaves) rep comp sub text =
     InNth (IsChosen (Some c) (texts_from w from) from.field) rep (λ n. AtMeans (walking w from n) (leaf_at leaves comp sub)) text
 MakingMeans w (build leaves) rep comp sub text = Where (rep ≡ 1) (AtMeans w (leaf_at leaves comp sub)) text
+MakingMeans w (the_rest from listed taken) rep comp sub text = text ≡ []
 
 abbrev pub RuleMeans : Walked → Option Rule → ℕ → ℕ → ℕ → List ℕ → Type 0
 RuleMeans w None rep comp sub text = text ≡ []
@@ -169,10 +170,10 @@ chosen m scope (Some c) found = filter (λ o. meets m (o ∷ scope) c) found
 
 -- ---- segments and groups
 
--- a segment of this name whose texts are those of the rules
+-- a segment of this name whose texts are those of the rules, and of the rest where there is one
 pub record IsImage (w : Walked) (name : List ℕ) (rules : List Rule) (s : SegmentValue) : Type 0 where
   pub named : s.name ≡ name
-  pub texts : (field rep comp sub : ℕ) → RuleMeans w (rule_of rules field) rep comp sub (text_of s.at field rep comp sub)
+  pub texts : (field rep comp sub : ℕ) → RuleMeans w (maker_of rules field) rep comp sub (text_of s.at field rep comp sub)
 
 -- for each occurrence a part, in their order
 abbrev pub ForEach : (Occurrence → List SegmentValue → Type 0) → List Occurrence → List SegmentValue → Type 0

@@ -10,6 +10,7 @@ mod making;
 mod places;
 mod putting;
 mod reading;
+mod rest;
 mod segments;
 mod translating;
 

@@ -198,5 +198,7 @@ pub(crate) fn make_rule<'a>(
             }
         },
         Making::Build(leaves) => make_build(rows, scope, builder, leaves, field),
+        // (what it gives is made behind all rules)
+        Making::Rest(_, _, _) => Ok(()),
     }
 }

@@ -9,6 +9,7 @@ ghost use Rattle.gw_interp.specs.own.Ready.{MayImage, MayBegin, Adds};
 ghost use Rattle.gw_interp.specs.own.Making.{seen_from, MayMakeRules, AreRulesMade};
 
 use crate::making::make_rule;
+use crate::rest::put_rest;
 use gw_er7::Builder;
 use gw_maplang::Map;
 use gw_resolve::Rule;
@@ -48,5 +49,6 @@ pub(crate) fn put_segment<'a>(
     ensures lawful { OnOk result (IsBegun builder.new) }
 {
     builder.begin(name)?;
-    make_rules(rows, scope, builder, rules)
+    make_rules(rows, scope, builder, rules)?;
+    put_rest(rows, scope, builder, rules)
 }

@@ -6,7 +6,7 @@ use Rattle.gw_profile.specs.Lengths.{len_count}
 use Rattle.gw_profile.specs.Value.{table_of}
 use Rattle.gw_validate.specs.Breaches.{is_required, is_forbidden, is_null}
 use Rattle.gw_maplang.specs.Shapes.{Rows}
-use Rattle.gw_resolve.specs.Resolved.{Reference, Source, Leaf, const, copied, looked_up, dated, Alternative, At, alternatives, Making, copy, first, repeat, build, Rule}
+use Rattle.gw_resolve.specs.Resolved.{Reference, Source, Leaf, const, copied, looked_up, dated, Alternative, At, alternatives, Making, copy, first, repeat, build, the_rest, Rule}
 use Rattle.gw_resolve.specs.Failures.{Mark, Failure, at_line, fails}
 use Rattle.gw_leaves.specs.Leaves.{Sources, Shape, at_field, comp_presence, sub_presence, sub_values, source_shape, leaf_shape, at_presence, is_always, is_absent, has_no_row, may_be_unlisted, may_be_long}
 use Rattle.gw_profile.specs.Numbered.{comp_of, sub_of}
@@ -123,6 +123,7 @@ making_failures s to mark (copy from) target = copied_field s to mark from targe
 making_failures s to mark (first from condition) target = copied_field s to mark from target
 making_failures s to mark (repeat from condition leaves) target = made_field (walking s from) to mark leaves target
 making_failures s to mark (build leaves) target = made_field s to mark leaves target
+making_failures s to mark (the_rest from listed taken) target = []
 
 -- ---- lookups
 
@@ -154,3 +155,4 @@ rule_lookups s r = go r.making
     go (first from condition) = []
     go (repeat from condition leaves) = flat_map (lookup_failures (walking s from) r.field) leaves
     go (build leaves) = flat_map (lookup_failures s r.field) leaves
+    go (the_rest from listed taken) = []

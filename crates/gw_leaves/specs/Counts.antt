@@ -4,7 +4,7 @@ use Rattle.std.specs.List.{list_any, list_all}
 use Rattle.gw_profile.specs.Shapes.{FieldValue}
 use Rattle.gw_resolve.specs.Intervals.{Interval, never, once, any_number, of_card, is_sure, is_never, at_most_one}
 use Rattle.gw_resolve.specs.Places.{Known, known}
-use Rattle.gw_resolve.specs.Resolved.{Reference, At, Making, copy, first, repeat, build, Rule}
+use Rattle.gw_resolve.specs.Resolved.{Reference, At, Making, copy, first, repeat, build, the_rest, Rule}
 use Rattle.gw_leaves.specs.Leaves.{Sources, at_field, at_presence, is_always, is_absent}
 
 abbrev pub repetitions : Option FieldValue → Interval
@@ -47,6 +47,7 @@ making_count s (copy from) = field_count s from
 making_count s (first from condition) = at_most_one (chosen_count condition (field_count s from))
 making_count s (repeat from condition leaves) = leaves_count (walking s from) leaves (chosen_count condition (field_count s from))
 making_count s (build leaves) = leaves_count s leaves once
+making_count s (the_rest from listed taken) = never
 
 abbrev pub rule_count : Sources → Option Rule → Interval
 rule_count s None = never

@@ -4,7 +4,7 @@ use Rattle.std.specs.List.{list_any}
 use Rattle.gw_profile.specs.Fault.{is_among}
 use Rattle.gw_maplang.specs.Shapes.{Condition}
 use Rattle.gw_resolve.specs.Failures.{Mark, Failure, fails}
-use Rattle.gw_resolve.specs.Resolved.{Reference, of_field, Leaf, const, Alternative, At, alternatives, Making, copy, first, repeat, build, Rule}
+use Rattle.gw_resolve.specs.Resolved.{Reference, of_field, Leaf, const, Alternative, At, alternatives, Making, copy, first, repeat, build, the_rest, Rule}
 use Rattle.gw_leaves.specs.Leaves.{Sources, Values, any, listed, Shape, is_always, is_absent, is_short, source_shape, leaf_shape}
 use Rattle.gw_leaves.specs.Components.{field_mark, leaf_mark, line_in}
 use Rattle.gw_leaves.specs.Counts.{walking}
@@ -57,3 +57,4 @@ rule_failures s r = go r.making
     go (repeat from condition leaves) =
         condition_failures s (field_mark r.field r.line) from condition ++ flat_map (place_failures (walking s from) r.field) leaves
     go (build leaves) = flat_map (place_failures s r.field) leaves
+    go (the_rest from numbers taken) = []

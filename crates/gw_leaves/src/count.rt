@@ -100,5 +100,6 @@ pub fn rule_count(sources: Sources<'_, '_, '_, '_, '_>, rule: Option<&Rule>) -> 
             leaves_count(walking(sources, from), leaves, count)
         }
         Making::Build(leaves) => leaves_count(sources, leaves, once()),
+        Making::Rest(_, _, _) => never(),
     }
 }

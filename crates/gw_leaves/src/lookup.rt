@@ -81,7 +81,7 @@ fn check_rule(
     ensures { OnOk result (Notes found.old found.new (spec.rule_lookups (sources_value sources.entry) (seen_rule (map_tables sources.entry) rule.now))) }
 {
     match &rule.making {
-        Making::Copy(_) | Making::First(_, _) => Ok(()),
+        Making::Copy(_) | Making::First(_, _) | Making::Rest(_, _, _) => Ok(()),
         Making::Repeat(from, _, leaves) => {
             check_leaves(found, walking(sources, from), rule.field, leaves)
         }

@@ -31,5 +31,6 @@ pub fn check_making(
             check_made(found, walking(sources, from), mark, leaves, field)
         }
         Making::Build(leaves) => check_made(found, sources, mark, leaves, field),
+        Making::Rest(_, _, _) => Ok(()),
     }
 }

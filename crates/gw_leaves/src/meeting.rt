@@ -106,6 +106,7 @@ fn add_segment<'a>(
                 add_leaves(comparisons, walking(sources, from), field, leaves)?
             }
             Making::Build(leaves) => add_leaves(comparisons, sources, field, leaves)?,
+            Making::Rest(_, _, _) => {}
         }
     }
     Ok(())

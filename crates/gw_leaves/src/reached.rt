@@ -175,7 +175,7 @@ fn check_rule(
 {
     let mark = field_mark(rule.field, rule.line);
     match &rule.making {
-        Making::Copy(_) => Ok(()),
+        Making::Copy(_) | Making::Rest(_, _, _) => Ok(()),
         Making::First(from, condition) => check_chosen(found, sources, mark, from, condition),
         Making::Repeat(from, condition, leaves) => {
             check_chosen(found, sources, mark, from, condition)?;

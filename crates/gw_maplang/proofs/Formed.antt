@@ -7,17 +7,17 @@ use Rattle.gw_lines.specs.Values.{is_value}
 use Rattle.gw_profile.proofs.Facts.{both, neither, not_false, no_clash, le_is}
 use Rattle.gw_maplang.specs.declared.rule.LeafPlace.{LeafPlace}
 use Rattle.gw_maplang.specs.Among.{Among, Distinct}
-use Rattle.gw_maplang.specs.Shapes.{Field, Current, Leaf, Const, Copy, Lookup, Date, Alternative, LeafValue, Condition, FieldCondition, Walk, Making, Copies, Firsts, Repeats, Builds, RuleValue, Items, nothing}
+use Rattle.gw_maplang.specs.Shapes.{Field, Current, Leaf, Const, Copy, Lookup, Date, Alternative, LeafValue, Condition, FieldCondition, Walk, Making, Copies, Firsts, Repeats, Builds, CopiesRest, RuleValue, Items, nothing}
 use Rattle.gw_maplang.specs.Columns.{WideRow, WideTable, behind_first, is_known}
-use Rattle.gw_maplang.specs.Lawful.{Lawful, LawfulLeaf, LawfulOthers, LawfulLeafValue, LawfulLeaves, LawfulCondition, LawfulFieldCondition, LawfulWalk, LawfulMaking, LawfulItems, LawfulDrop, places, rule_fields}
+use Rattle.gw_maplang.specs.Lawful.{Lawful, LawfulLeaf, LawfulOthers, LawfulLeafValue, LawfulLeaves, LawfulCondition, LawfulFieldCondition, LawfulWalk, LawfulMaking, LawfulFor, LawfulItems, LawfulDrop, places, rule_fields}
 use Rattle.gw_maplang.specs.Line.{Line, Begins, Language, Table, Rows, Else, Segment, Makes, At, Or, Each, End, Drops}
-use Rattle.gw_maplang.specs.Fault.{begun, at_last, with_row, with_other, wide_below, wide_tables, wide_names, wide_firsts, is_second, last_table, in_table, is_flat, OpenSegment, OpenRule, open_segment, open_rule, opened, with_field, with_place, depth, hollow, is_stray, is_early, is_unknown, is_bad, own_leaf, has_leaf, is_led, is_repeated, condition_of, asked_of, condition_in, is_hasty_rule, is_bad_condition, is_misplaced, is_misplaced_leaf, is_made, is_placed, is_among, is_place}
+use Rattle.gw_maplang.specs.Fault.{begun, at_last, with_row, with_other, wide_below, wide_tables, wide_names, wide_firsts, is_second, last_table, in_table, is_flat, OpenSegment, OpenRule, open_segment, open_rule, opened, with_field, with_place, depth, hollow, is_stray, is_early, is_unknown, is_bad, own_leaf, has_leaf, is_led, is_repeated, condition_of, asked_of, condition_in, is_hasty_rule, is_bad_condition, is_beyond, is_misplaced, is_misplaced_leaf, is_made, is_placed, is_among, is_place}
 use Rattle.gw_maplang.specs.Value.{Parts, Levels, Head, head, head_of, no_parts, parts, own_or, with_others, with_leaves, rule_with, next, past, each_item, levels, drops}
 use Rattle.gw_maplang.specs.own.Widths.{LawfulWide, LawfulWides}
 use Rattle.gw_maplang.proofs.Among.{not_among, among_left, among_right, bytes_see, distinct_push, numbers_see, places_see}
 use Rattle.gw_maplang.proofs.ColumnNames.{all_names, all_columns_names, all_distinct, known_named, names_stay, names_push, names_second}
 use Rattle.gw_maplang.proofs.LawfulColumns.{Fits, fits_is, values_lawful, rows_stay, other_stays, narrow_stays, never_unsaid, widened_grows, all_lawful, are_named}
-use Rattle.gw_maplang.proofs.Shaped.{IsFew, ShapedLeaf, ShapedLeafValue, ShapedCondition, ShapedFieldCondition, ShapedWalk, ShapedMaking, all_of}
+use Rattle.gw_maplang.proofs.Shaped.{IsFew, ShapedLeaf, ShapedLeafValue, ShapedCondition, ShapedFieldCondition, ShapedWalk, ShapedMaking, ShapedField, all_of}
 use Rattle.std.proofs.lemmas.Bool.Decides.{Decides-eqb}
 use mathlib.Core.List.{reverse_aux}
 use Rattle.gw_maplang.specs.Whole.{is_unclosed, map_of}
@@ -71,7 +71,7 @@ pub record LeavesBehind (names : List (List ℕ)) (o : OpenRule) (leaves : List 
   pub apart : (x : LeafPlace) → Among x (places leaves) → Among x o.places → ⊥
 
 abbrev pub RuleFrom : List (List ℕ) → ℕ → RuleValue → Type 0
-RuleFrom names least r = ((least ≤ r.field) × (r.field ≤ 999)) × LawfulMaking names r.making
+RuleFrom names least r = LawfulFor least r.making r.field × LawfulMaking names r.making
 
 -- rules of a segment that stand behind others
 pub record RulesBehind (names : List (List ℕ)) (s : OpenSegment) (rules : List RuleValue) : Type 0 where
@@ -94,6 +94,13 @@ no_rules names (Some s) = record { each = tt; distinct = tt; apart = λ x h k. h
 
 nothing_behind : (names : List (List ℕ)) (above : List Line) → PartsAre names above no_parts
 nothing_behind names above = record { others = λ led. tt; leaves = no_leaves names (open_rule above); rules = no_rules names (open_segment above) }
+
+field_lawful : (s : OpenSegment) (m : Making) (field : ℕ) (others : List Alternative) (leaves : List LeafValue) → ShapedField m field → is_beyond m field s ≡ false → LawfulFor s.least (with_leaves m others leaves) field
+field_lawful s (Copies from) field others leaves f m = (le_is s.least field (not_false (nat_le s.least field) m), f)
+field_lawful s (Firsts from c) field others leaves f m = (le_is s.least field (not_false (nat_le s.least field) m), f)
+field_lawful s (Repeats from c own) field others leaves f m = (le_is s.least field (not_false (nat_le s.least field) m), f)
+field_lawful s (Builds own) field others leaves f m = (le_is s.least field (not_false (nat_le s.least field) m), f)
+field_lawful s CopiesRest field others leaves f m = f
 
 condition_lawful : (o : Option Condition) → IfSome o ShapedCondition → is_bad_condition o ≡ false → IfSome o LawfulCondition
 condition_lawful None s b = tt
@@ -153,6 +160,7 @@ module _ (names : List (List ℕ)) (second : Bool) (ts : List WideTable) (known 
   making_lawful (Repeats from c own) others leaves s a u b v k h =
       (s.0, condition_lawful c s.1 v, subst (λ (o : List LeafValue). LawfulLeaves names true (own_or o others leaves)) (sym s.2) (record { each = h.each; distinct = h.distinct }))
   making_lawful (Builds []) others leaves s a u b v k h = record { each = h.each; distinct = h.distinct }
+  making_lawful CopiesRest others leaves s a u b v k h = tt
   making_lawful (Builds (l ∷ own)) others leaves s a u b v k h =
       let o = own_lawful (l ∷ own) s.0 a u b in record { each = ((o.0.0, o.0.1, k refl), o.1); distinct = s.1 }
 
@@ -173,12 +181,12 @@ module _ (names : List (List ℕ)) (second : Bool) (ts : List WideTable) (known 
   add_other : (repeated : Bool) (o : Alternative) (others : List Alternative) → second ≡ true → ShapedLeaf o.leaf → is_stray repeated o.leaf ≡ false → is_unknown ts o.leaf ≡ false → is_bad o.leaf ≡ false → LawfulOthers names repeated others → LawfulOthers names repeated (o ∷ others)
   add_other repeated o others t s a u b h = (leaf_lawful repeated o.leaf s a (never_early second o.leaf t) u b, h)
 
-  add_rule : (o : Option OpenSegment) (r : RuleValue) (others : List Alternative) (leaves : List LeafValue) (rules : List RuleValue) → r.field ≤ 999 → is_misplaced r.field o ≡ false → is_made r.field o ≡ false → LawfulMaking names (with_leaves r.making others leaves)
+  add_rule : (o : Option OpenSegment) (r : RuleValue) (others : List Alternative) (leaves : List LeafValue) (rules : List RuleValue) → ShapedField r.making r.field → is_misplaced r o ≡ false → is_made r.field o ≡ false → LawfulMaking names (with_leaves r.making others leaves)
       → IfSome (with_field r.field o) (λ s. RulesBehind names s rules) → IfSome o (λ s. RulesBehind names s (rule_with r others leaves ∷ rules))
   add_rule None r others leaves rules f m d k h = tt
   add_rule (Some s) r others leaves rules f m d k h =
       record {
-        each = (((le_is s.least r.field (not_false (nat_le s.least r.field) m), f), k), h.each);
+        each = ((field_lawful s r.making r.field others leaves f m, k), h.each);
         distinct = ((λ a. h.apart r.field a (among_right s.fields (r.field ∷ []) r.field (inl refl))), h.distinct);
         apart = λ x. elim [
           | inl e ↦ (λ a. not_among (λ (x y : ℕ). x == y) numbers_see r.field s.fields d (subst (λ y. Among y s.fields) e a))
@@ -197,8 +205,8 @@ parts_lawful names above (Segment at label source ∷ below) g = nothing_behind 
 parts_lawful names above (Makes rule ∷ below) g =
     let i = parts_lawful names (Makes rule ∷ above) below g.1 in
     let k = known names above (Makes rule ∷ below) g in
-    let c = neither (is_misplaced rule.field (open_segment above) || is_hasty_rule (is_second above) rule.making) _ g.0.clear.0 in
-    let d = neither (is_misplaced rule.field (open_segment above)) (is_hasty_rule (is_second above) rule.making) c.0 in
+    let c = neither (is_misplaced rule (open_segment above) || is_hasty_rule (is_second above) rule.making) _ g.0.clear.0 in
+    let d = neither (is_misplaced rule (open_segment above)) (is_hasty_rule (is_second above) rule.making) c.0 in
     let b = neither (is_bad_condition (condition_of rule.making)) _ g.0.clear.1.1.0 in
     record {
       others = λ led. tt;

@@ -15,9 +15,9 @@ use Rattle.gw_maplang.specs.declared.rule.DateDigits.{DateDigits}
 use Rattle.gw_maplang.specs.declared.rule.LeafPlace.{LeafPlace}
 use Rattle.gw_maplang.specs.Among.{Distinct}
 use Rattle.gw_maplang.specs.Columns.{behind_first, is_table_word}
-use Rattle.gw_maplang.specs.Shapes.{Path, FieldPath, Ref, Field, Current, Leaf, Const, Copy, Lookup, Date, LeafValue, Condition, FieldCondition, Walk, Making, Copies, Firsts, Repeats, Builds}
+use Rattle.gw_maplang.specs.Shapes.{Path, FieldPath, Ref, Field, Current, Leaf, Const, Copy, Lookup, Date, LeafValue, Condition, FieldCondition, Walk, Making, Copies, Firsts, Repeats, Builds, CopiesRest}
 use Rattle.gw_maplang.specs.Lawful.{LawfulPath, LawfulField, LawfulFieldPath, LawfulPlace, LawfulDrop, LawfulDigits, is_date_length, last_label, places}
-use Rattle.gw_maplang.specs.Line.{Line, Begins, Language, Table, Rows, Else, Segment, Makes, At, Or, Each, End, Drops, is_slash, is_dash, path_of, field_of, field_path, sub_of, place_of, place_or_first, field_ref, ref_of, dropped_field, drop_of, constant, plain_word, plain_at, either_at, first_or_at, text_at, some_bytes, texts, most_columns, some_texts, values_form, where_at, condition_form, condition_at, field_place, asked_at, field_condition_form, field_condition_at, walk_form, table_word, from_at, const_form, copy_form, lookup_form, date_length, date_most, date_behind, date_digits, date_from, date_form, leaf_of, leaf_form, own_leaves, map_form, language_form, table_form, row_form, else_form, source_behind, source_form, segment_form, made_from, chosen_from, copies_form, firsts_form, repeats_form, builds_form, at_form, or_form, each_form, group_form, drop_form, rule_form, keyword_form, form}
+use Rattle.gw_maplang.specs.Line.{Line, Begins, Language, Table, Rows, Else, Segment, Makes, At, Or, Each, End, Drops, is_slash, is_dash, path_of, field_of, field_path, sub_of, place_of, place_or_first, field_ref, ref_of, dropped_field, drop_of, constant, plain_word, plain_at, either_at, first_or_at, text_at, some_bytes, texts, most_columns, some_texts, values_form, where_at, condition_form, condition_at, field_place, asked_at, field_condition_form, field_condition_at, walk_form, table_word, from_at, const_form, copy_form, lookup_form, date_length, date_most, date_behind, date_digits, date_from, date_form, leaf_of, leaf_form, own_leaves, map_form, language_form, table_form, row_form, else_form, source_behind, source_form, segment_form, made_from, chosen_from, copied_behind, copies_form, firsts_form, repeats_form, builds_form, at_form, or_form, each_form, group_form, drop_form, rule_form, keyword_form, form}
 
 abbrev pub ShapedRef : Ref → Type 0
 ShapedRef (Field from place) = LawfulFieldPath from × LawfulPlace place
@@ -49,6 +49,14 @@ ShapedMaking (Copies from) = LawfulFieldPath from
 ShapedMaking (Firsts from condition) = LawfulFieldPath from × IfSome condition ShapedCondition
 ShapedMaking (Repeats from condition leaves) = LawfulFieldPath from × IfSome condition ShapedCondition × (leaves ≡ [])
 ShapedMaking (Builds leaves) = ShapedLeaves leaves
+ShapedMaking CopiesRest = Unit {0}
+
+abbrev pub ShapedField : Making → ℕ → Type 0
+ShapedField (Copies from) field = field ≤ 999
+ShapedField (Firsts from condition) field = field ≤ 999
+ShapedField (Repeats from condition leaves) field = field ≤ 999
+ShapedField (Builds leaves) field = field ≤ 999
+ShapedField CopiesRest field = field ≡ 0
 
 -- one value at least, and no more than a table has columns
 abbrev pub IsFew : List (List ℕ) → Type 0
@@ -61,7 +69,7 @@ Shaped (Table name) = is_name name ≡ true
 Shaped (Rows row) = IsFew row.seconds
 Shaped (Else values) = IsFew values
 Shaped (Segment at label source) = (is_name label ≡ true) × IfSome source ShapedWalk
-Shaped (Makes rule) = (rule.field ≤ 999) × ShapedMaking rule.making
+Shaped (Makes rule) = ShapedField rule.making rule.field × ShapedMaking rule.making
 Shaped (At leaf) = ShapedLeafValue leaf
 Shaped (Or other) = ShapedLeaf other.leaf
 Shaped (Each at label walk) = IfSome label (λ name. is_name name ≡ true) × ShapedWalk walk
@@ -296,6 +304,10 @@ made_from_is words =
     gives (λ p. (1 ≤ p.0) × (p.0 ≤ 999)) MadeFrom (number_at 999 words) _ (number_at_is 999 words)
     (λ field h. gives (λ p. LawfulFieldPath p.0) MadeFrom (from_at field.1) _ (from_at_is field.1) (λ from k. with_all_is MadeFrom from.1 (field.0, from.0) (h.1, k)))
 
+copied_behind_is : (at : ℕ) (o : Option (List Word)) (words : List Word) → IfSome (copied_behind at o words) Shaped
+copied_behind_is at None words = map_gives MadeFrom Shaped (made_from words) _ (made_from_is words) (λ m h. h)
+copied_behind_is at (Some more) words = with_all_is Shaped more (Makes (record { line = at; field = 0; making = CopiesRest })) (refl, tt)
+
 where_at_is : (words : List Word) → IfSome (where_at words) (λ p. LawfulPlace p.0)
 where_at_is words =
     gives (λ _. Unit {0}) _ (behind (codes "where") words) _ (any (behind (codes "where") words)) (λ more u. plain_at_is LawfulPlace place_of place_of_is more)
@@ -348,7 +360,7 @@ drop_form_is at words =
 
 rule_form_is : (at : ℕ) (keyword : Word) (more : List Word) → IfSome (rule_form at keyword more) Shaped
 rule_form_is at keyword more =
-    either_gives Shaped (is_keyword (codes "copy") keyword) (copies_form at more) _ (map_gives MadeFrom Shaped (made_from more) _ (made_from_is more) (λ m h. h))
+    either_gives Shaped (is_keyword (codes "copy") keyword) (copies_form at more) _ (copied_behind_is at (behind (codes "rest") more) more)
     (either_gives Shaped (is_keyword (codes "first") keyword) (firsts_form at more) _ (map_gives ChosenFrom Shaped (chosen_from more) _ (chosen_from_is more) (λ m h. (h.0, (h.1, h.2))))
     (either_gives Shaped (is_keyword (codes "repeat") keyword) (repeats_form at more) _ (map_gives ChosenFrom Shaped (chosen_from more) _ (chosen_from_is more) (λ m h. (h.0, (h.1, h.2, refl))))
     (either_gives Shaped (is_keyword (codes "build") keyword) (builds_form at more) _ (builds_form_is at more)

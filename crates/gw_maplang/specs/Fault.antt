@@ -8,7 +8,7 @@ use Rattle.gw_lines.specs.Grammar.{Grammar}
 use Rattle.gw_maplang.specs.declared.fault.MapFault.{MapFault}
 use Rattle.gw_maplang.specs.declared.fault.MapFault.TheVariants.{Syntax, UnknownTable, BadConstant, Duplicate, TooDeep}
 use Rattle.gw_maplang.specs.declared.rule.LeafPlace.{LeafPlace}
-use Rattle.gw_maplang.specs.Shapes.{Ref, Field, Current, Leaf, Const, Copy, Lookup, Date, LeafValue, Condition, FieldCondition, Walk, Making, Copies, Firsts, Repeats, Builds, RuleValue, TableValue}
+use Rattle.gw_maplang.specs.Shapes.{Ref, Field, Current, Leaf, Const, Copy, Lookup, Date, LeafValue, Condition, FieldCondition, Walk, Making, Copies, Firsts, Repeats, Builds, CopiesRest, RuleValue, TableValue}
 use Rattle.gw_maplang.specs.Columns.{WideRow, WideTable, new_table, widened, all_columns, behind_first, is_known}
 use Rattle.gw_maplang.specs.Lawful.{least_field}
 use Rattle.gw_lines.specs.Spelled.{is_dot}
@@ -95,9 +95,10 @@ hollow (Each at label walk ∷ above) = is_flat label
 hollow (End ∷ above) = false
 hollow (line ∷ above) = hollow above
 
--- a segment that may have rules below it: the least number of a field, and the fields that have one
+-- a segment that may have rules below it: the least number of a field, whether a segment is walked, and the fields that have one
 pub record OpenSegment : Type 0 where
   pub least : ℕ
+  pub walks : Bool
   pub fields : List ℕ
 
 abbrev pub with_field : ℕ → Option OpenSegment → Option OpenSegment
@@ -106,7 +107,7 @@ with_field field (Some s) = Some (record s { fields = s.fields ++ field ∷ [] }
 
 -- the same below a line
 abbrev pub segment_below : Line → Option OpenSegment → Option OpenSegment
-segment_below (Segment at label source) held = Some (record { least = least_field label; fields = [] })
+segment_below (Segment at label source) held = Some (record { least = least_field label; walks = is_some source; fields = [] })
 segment_below (Makes rule) held = with_field rule.field held
 segment_below (At leaf) held = held
 segment_below (Or other) held = held
@@ -122,13 +123,14 @@ pub record OpenRule : Type 0 where
   pub repeated : Bool
   pub places : List LeafPlace
 
--- `copy`, `first`, and `build` with its own leaf have none
+-- `copy`, `first`, and `build` with its own leaf have none, nor has the rest
 abbrev pub opened : Making → Option OpenRule
 opened (Copies from) = None
 opened (Firsts from condition) = None
 opened (Repeats from condition leaves) = Some (record { repeated = true; places = [] })
 opened (Builds []) = Some (record { repeated = false; places = [] })
 opened (Builds (leaf ∷ leaves)) = None
+opened CopiesRest = None
 
 abbrev pub with_place : LeafPlace → Option OpenRule → Option OpenRule
 with_place place None = None
@@ -245,6 +247,7 @@ condition_of (Copies from) = None
 condition_of (Firsts from condition) = condition
 condition_of (Repeats from condition leaves) = condition
 condition_of (Builds leaves) = None
+condition_of CopiesRest = None
 
 -- what a condition asks of its field
 abbrev pub asked_of : Option FieldCondition → Option Condition
@@ -261,12 +264,13 @@ abbrev pub is_hasty : Bool → Option Condition → Bool
 is_hasty second None = false
 is_hasty second (Some c) = not second
 
--- the same of a rule that has a condition, or reads the first of several
+-- the same of a rule that has a condition, or reads the first of several, and of the rest
 abbrev pub is_later_rule : Making → Bool
 is_later_rule (Copies from) = from.takes_first
 is_later_rule (Firsts from condition) = from.takes_first || is_some condition
 is_later_rule (Repeats from condition leaves) = from.takes_first || is_some condition
 is_later_rule (Builds leaves) = false
+is_later_rule CopiesRest = true
 
 abbrev pub is_hasty_rule : Bool → Making → Bool
 is_hasty_rule second making = not second && is_later_rule making
@@ -276,10 +280,15 @@ abbrev pub is_bad_condition : Option Condition → Bool
 is_bad_condition None = false
 is_bad_condition (Some c) = not (list_all is_value c.values)
 
+-- the segment has no such field; the rest is one of a segment that is walked
+abbrev pub is_beyond : Making → ℕ → OpenSegment → Bool
+is_beyond CopiesRest field s = not s.walks
+is_beyond making field s = not (nat_le s.least field)
+
 -- no segment above can hold a rule for this field
-abbrev pub is_misplaced : ℕ → Option OpenSegment → Bool
-is_misplaced field None = true
-is_misplaced field (Some s) = not (nat_le s.least field)
+abbrev pub is_misplaced : RuleValue → Option OpenSegment → Bool
+is_misplaced rule None = true
+is_misplaced rule (Some s) = is_beyond rule.making rule.field s
 
 abbrev pub is_made : ℕ → Option OpenSegment → Bool
 is_made field None = false
@@ -321,7 +330,7 @@ segment_tests above at condition = (not (begun above) || is_hasty (is_second abo
 -- no segment above can hold this rule, or its language has no such rule
 abbrev pub is_misplaced_rule : List Line → RuleValue → Bool
 is_misplaced_rule above rule =
-    is_misplaced rule.field (open_segment above) || is_hasty_rule (is_second above) rule.making
+    is_misplaced rule (open_segment above) || is_hasty_rule (is_second above) rule.making
     || list_any (λ l. is_stray false l.leaf || is_early (is_second above) l.leaf) (own_leaf rule.making)
 
 -- its leaf looks up in no table above

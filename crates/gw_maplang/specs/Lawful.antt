@@ -7,7 +7,7 @@ use Rattle.gw_maplang.specs.declared.rule.DateDigits.{DateDigits}
 use Rattle.gw_maplang.specs.declared.rule.LeafPlace.{LeafPlace}
 use Rattle.gw_maplang.specs.Among.{Among, Distinct}
 use Rattle.gw_maplang.specs.Columns.{is_table_word}
-use Rattle.gw_maplang.specs.Shapes.{Path, FieldPath, Ref, Field, Current, Leaf, Const, Copy, Lookup, Date, Alternative, LeafValue, Condition, FieldCondition, Walk, Making, Copies, Firsts, Repeats, Builds, RuleValue, SegmentItem, GroupItem, FlatItem, Items, nothing, segment, group, flat, Row, TableValue, DropValue, MapValue}
+use Rattle.gw_maplang.specs.Shapes.{Path, FieldPath, Ref, Field, Current, Leaf, Const, Copy, Lookup, Date, Alternative, LeafValue, Condition, FieldCondition, Walk, Making, Copies, Firsts, Repeats, Builds, CopiesRest, RuleValue, SegmentItem, GroupItem, FlatItem, Items, nothing, segment, group, flat, Row, TableValue, DropValue, MapValue}
 
 -- ---- numbers and paths
 
@@ -96,9 +96,18 @@ LawfulMaking tables (Copies from) = LawfulFieldPath from
 LawfulMaking tables (Firsts from condition) = LawfulFieldPath from × IfSome condition LawfulCondition
 LawfulMaking tables (Repeats from condition leaves) = LawfulFieldPath from × IfSome condition LawfulCondition × LawfulLeaves tables true leaves
 LawfulMaking tables (Builds leaves) = LawfulLeaves tables false leaves
+LawfulMaking tables CopiesRest = Unit {0}
+
+-- the least number is that of a field that a rule may make; the rest is of none
+abbrev pub LawfulFor : ℕ → Making → ℕ → Type 0
+LawfulFor least (Copies from) field = (least ≤ field) × (field ≤ 999)
+LawfulFor least (Firsts from condition) field = (least ≤ field) × (field ≤ 999)
+LawfulFor least (Repeats from condition leaves) field = (least ≤ field) × (field ≤ 999)
+LawfulFor least (Builds leaves) field = (least ≤ field) × (field ≤ 999)
+LawfulFor least CopiesRest field = field ≡ 0
 
 abbrev pub LawfulRule : List (List ℕ) → List ℕ → RuleValue → Type 0
-LawfulRule tables label r = LawfulField label r.field × LawfulMaking tables r.making
+LawfulRule tables label r = LawfulFor (least_field label) r.making r.field × LawfulMaking tables r.making
 
 abbrev pub rule_fields : List RuleValue → List ℕ
 rule_fields = map (λ (r : RuleValue). r.field)

@@ -8,7 +8,7 @@ use Rattle.gw_lines.specs.Values.{bytes_of}
 use Rattle.gw_lines.specs.Parts.{first_word, name_at, number_at, behind, with_all, ◌>>=◌}
 use Rattle.gw_maplang.specs.declared.rule.DateDigits.{DateDigits}
 use Rattle.gw_maplang.specs.declared.rule.LeafPlace.{LeafPlace}
-use Rattle.gw_maplang.specs.Shapes.{Path, FieldPath, Ref, Field, Current, Leaf, Const, Copy, Lookup, Date, Alternative, LeafValue, Condition, FieldCondition, Walk, Copies, Firsts, Repeats, Builds, RuleValue, DropValue}
+use Rattle.gw_maplang.specs.Shapes.{Path, FieldPath, Ref, Field, Current, Leaf, Const, Copy, Lookup, Date, Alternative, LeafValue, Condition, FieldCondition, Walk, Copies, Firsts, Repeats, Builds, CopiesRest, RuleValue, DropValue}
 use Rattle.gw_maplang.specs.Columns.{WideRow, behind_first, is_table_word}
 use Rattle.gw_maplang.specs.Lawful.{least_field, last_label, is_date_length}
 
@@ -373,9 +373,14 @@ chosen_from words = do
   condition ← condition_at from.1
   Some (field.0, from.0, condition)
 
--- copy N from [first] PATH-F
+-- rest, or N from [first] PATH-F
+abbrev pub copied_behind : ℕ → Option (List Word) → List Word → Option Line
+copied_behind at None words = option_map (λ m. Makes (record { line = at; field = m.0; making = Copies m.1 })) (made_from words)
+copied_behind at (Some more) words = with_all more (Makes (record { line = at; field = 0; making = CopiesRest }))
+
+-- copy N from [first] PATH-F, copy rest
 abbrev pub copies_form : ℕ → List Word → Option Line
-copies_form at words = option_map (λ m. Makes (record { line = at; field = m.0; making = Copies m.1 })) (made_from words)
+copies_form at words = copied_behind at (behind (codes "rest") words) words
 
 -- first N from [first] PATH-F [where C[.S] is VALUE ..]
 abbrev pub firsts_form : ℕ → List Word → Option Line

@@ -26,7 +26,7 @@ item_pattern second keyword =
 
 -- the same of the lines that read a field, in the second language or the first
 abbrev pub copy_pattern : Bool → List ℕ
-copy_pattern second = if second then codes "copy N from [first] PATH-F, below a segment" else codes "copy N from PATH-F, below a segment"
+copy_pattern second = if second then codes "copy N from [first] PATH-F, below a segment, or copy rest, below segment .. from" else codes "copy N from PATH-F, below a segment"
 
 abbrev pub first_pattern : Bool → List ℕ
 first_pattern second = if second then codes "first N from [first] PATH-F [where C[.S] is VALUE ..], below a segment" else codes "first N from PATH-F, below a segment"

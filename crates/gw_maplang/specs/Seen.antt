@@ -20,7 +20,7 @@ use Rattle.gw_maplang.specs.declared.context as Held
 use Rattle.gw_maplang.specs.Fault as Fault
 use Rattle.gw_lines.specs.Grammar.{AllTaken}
 use Rattle.gw_maplang.specs.Columns.{WideRow, WideRows, WideTable}
-use Rattle.gw_maplang.specs.Shapes.{Path, FieldPath, Ref, Field, Current, Leaf, Const, Copy, Lookup, Date, Alternative, LeafValue, Condition, FieldCondition, Walk, Copies, Firsts, Repeats, Builds, RuleValue, Items, nothing, segment, group, flat, Row, Rows, TableValue, DropValue, MapValue}
+use Rattle.gw_maplang.specs.Shapes.{Path, FieldPath, Ref, Field, Current, Leaf, Const, Copy, Lookup, Date, Alternative, LeafValue, Condition, FieldCondition, Walk, Copies, Firsts, Repeats, Builds, CopiesRest, RuleValue, Items, nothing, segment, group, flat, Row, Rows, TableValue, DropValue, MapValue}
 
 abbrev pub now : Option (Bor (List ℕ)) → Option (List ℕ)
 now found = option_map (λ bytes. bytes.now) found
@@ -87,6 +87,7 @@ rule (rules.TheVariants.CopyField r) = record { line = r.line; field = r.field; 
 rule (rules.TheVariants.FirstRep r) = record { line = r.line; field = r.field; making = Firsts (field_path r.from) (condition_some r.condition) }
 rule (rules.TheVariants.RepeatField r) = record { line = r.line; field = r.field; making = Repeats (field_path r.from) (condition_some r.condition) (map leaf_value r.leaves.items) }
 rule (rules.TheVariants.Build r) = record { line = r.line; field = r.field; making = Builds (map leaf_value r.leaves.items) }
+rule (rules.TheVariants.Rest at) = record { line = at; field = 0; making = CopiesRest }
 
 -- ---- items
 
@@ -164,7 +165,7 @@ above lines = reverse (map line lines)
 -- ---- what the lines above leave open
 
 abbrev pub open_segment : Option Held.OpenSegment.OpenSegment → Option Fault.OpenSegment
-open_segment s = option_map (λ o. record { least = o.least; fields = o.fields.keys }) s
+open_segment s = option_map (λ o. record { least = o.least; walks = o.walks; fields = o.fields.keys }) s
 
 abbrev pub open_rule : Option Held.OpenRule.OpenRule → Option Fault.OpenRule
 open_rule r = option_map (λ o. record { repeated = o.repeated; places = o.places.keys }) r

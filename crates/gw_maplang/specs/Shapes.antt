@@ -55,13 +55,15 @@ pub record Walk : Type 0 where
 
 -- How a field is made: it is another one as it is, its first repetition, one repetition of these leaves for each of its own, or one of these leaves.
 -- Where there is a condition, only the repetitions count that it chooses.
+-- The rest is each field that the target doesn't list and that has no rule: it is that of the segment that is walked.
 pub data Making : Type 0 where
   Copies : (from : FieldPath) → Making
   Firsts : (from : FieldPath) (condition : Option Condition) → Making
   Repeats : (from : FieldPath) (condition : Option Condition) (leaves : List LeafValue) → Making
   Builds : (leaves : List LeafValue) → Making
+  CopiesRest : Making
 
--- what makes the field of this number
+-- what makes the field of this number, 0 for the rest
 pub record RuleValue : Type 0 where
   pub line : ℕ
   pub field : ℕ

@@ -1,6 +1,6 @@
 -- The map that lines spell.
 use Rattle.std.specs.Prelude.{ℕ, List, [], ◌∷◌, Option, Some, None}
-use Rattle.gw_maplang.specs.Shapes.{Walk, Alternative, LeafValue, Making, Copies, Firsts, Repeats, Builds, RuleValue, Items, nothing, segment, group, flat, DropValue}
+use Rattle.gw_maplang.specs.Shapes.{Walk, Alternative, LeafValue, Making, Copies, Firsts, Repeats, Builds, CopiesRest, RuleValue, Items, nothing, segment, group, flat, DropValue}
 use Rattle.gw_maplang.specs.Line.{Line, Begins, Segment, Makes, At, Or, Each, End, Drops}
 
 -- ---- what lines spell, from the first on
@@ -28,6 +28,7 @@ with_leaves (Copies from) others below = Copies from
 with_leaves (Firsts from condition) others below = Firsts from condition
 with_leaves (Repeats from condition own) others below = Repeats from condition (own_or own others below)
 with_leaves (Builds own) others below = Builds (own_or own others below)
+with_leaves CopiesRest others below = CopiesRest
 
 abbrev pub rule_with : RuleValue → List Alternative → List LeafValue → RuleValue
 rule_with r others below = record r { making = with_leaves r.making others below }

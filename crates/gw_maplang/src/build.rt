@@ -121,6 +121,7 @@ fn rule_with(made: Rule, others: Vec<Alternative>, below: Vec<LeafRule>) -> Rule
     match made {
         Rule::CopyField(made) => Rule::CopyField(made),
         Rule::FirstRep(made) => Rule::FirstRep(made),
+        Rule::Rest(line) => Rule::Rest(line),
         Rule::RepeatField(made) => {
             let RepeatRule {
                 line,

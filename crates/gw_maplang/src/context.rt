@@ -33,10 +33,12 @@ pub(crate) const NOTHING_OPEN: OpenParts = OpenParts {
     led: false,
 };
 
-/// A segment that may have rules below it: the least number of a field, and the fields that have a rule.
+/// A segment that may have rules below it: the least number of a field, whether it walks a segment of the source, and the fields
+/// that have a rule.
 #[derive(Drop)]
 pub(crate) struct OpenSegment {
     pub(crate) least: u32,
+    pub(crate) walks: bool,
     pub(crate) fields: IndexSet<u32>,
 }
 
@@ -133,9 +135,10 @@ pub(crate) fn segment_below(
     ensures { OnOk result (open_segment held.new ≡ spec.segment_below (line whole.now) (open_segment held.old)) }
 {
     match whole {
-        Line::Segment(_, label, _) => {
+        Line::Segment(_, label, source) => {
             *held = Some(OpenSegment {
                 least: least_field(label),
+                walks: source.is_some(),
                 fields: IndexSet::new(alloc),
             });
             Ok(())

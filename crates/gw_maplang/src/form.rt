@@ -467,9 +467,16 @@ fn chosen_from(
     Ok(Some((field, from, condition)))
 }
 
-fn copies_form<'a>(alloc: Global, at: u32, words: &[Word]) -> Result<Option<Line<'a>>, AllocError>
+fn copies_form<'a>(
+    alloc: Global,
+    at: u32,
+    words: &[Word<'a>],
+) -> Result<Option<Line<'a>>, AllocError>
     ensures { IfOk result (λ found. option_map line found ≡ spec.copies_form at (map word words.now)) }
 {
+    if let Some(more) = behind(b"rest", words) {
+        return Ok(with_all(more, Line::Makes(Rule::Rest(at))));
+    }
     match made_from(alloc, words)? {
         None => Ok(None),
         Some((field, from)) => Ok(Some(Line::Makes(Rule::CopyField(CopyRule {

@@ -64,7 +64,7 @@ fn copy_pattern(second: bool) -> &'static [u8]
     ensures { result.now ≡ spec.copy_pattern second }
 {
     if second {
-        return b"copy N from [first] PATH-F, below a segment";
+        return b"copy N from [first] PATH-F, below a segment, or copy rest, below segment .. from";
     }
     b"copy N from PATH-F, below a segment"
 }

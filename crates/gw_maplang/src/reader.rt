@@ -142,6 +142,7 @@ fn own_leaf(made: &Rule) -> &[LeafRule]
         Rule::FirstRep(_) => &[],
         Rule::RepeatField(_) => &[],
         Rule::Build(build) => build.leaves.as_slice(),
+        Rule::Rest(_) => &[],
     }
 }
 
@@ -183,6 +184,7 @@ fn is_later_rule(made: &Rule) -> bool
         Rule::FirstRep(made) => made.from.takes_first || made.condition.is_some(),
         Rule::RepeatField(made) => made.from.takes_first || made.condition.is_some(),
         Rule::Build(_) => false,
+        Rule::Rest(_) => true,
     }
 }
 
@@ -254,12 +256,15 @@ fn is_bad_rule(made: &Rule) -> bool
     any_bad(own_leaf(made))
 }
 
-fn is_misplaced(field: u32, held: &Option<OpenSegment>) -> bool
-    ensures { result ≡ spec.is_misplaced field (open_segment held.now) }
+fn is_misplaced(made: &Rule, held: &Option<OpenSegment>) -> bool
+    ensures { result ≡ spec.is_misplaced (rule made.now) (open_segment held.now) }
 {
-    match held {
-        None => true,
-        Some(segment) => field < segment.least,
+    let Some(segment) = held else {
+        return true;
+    };
+    match made {
+        Rule::Rest(_) => !segment.walks,
+        _ => made.field() < segment.least,
     }
 }
 
@@ -401,7 +406,7 @@ impl<'a> Reader<'a> {
         ensures { result ≡ spec.is_misplaced_rule self.now (rule made.now) }
     {
         let second = self.open_parts.second;
-        if is_misplaced(made.field(), &self.segment) {
+        if is_misplaced(made, &self.segment) {
             return true;
         }
         if is_hasty_rule(second, made) {

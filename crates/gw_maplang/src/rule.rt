@@ -115,13 +115,14 @@ pub struct BuildRule {
     pub leaves: Vec<LeafRule>,
 }
 
-/// A rule: what makes a field of the target.
+/// A rule: what makes a field of the target, or all that its profile doesn't list: the rest, with the line of the rule.
 #[derive(Drop)]
 pub enum Rule {
     CopyField(CopyRule),
     FirstRep(FirstRule),
     RepeatField(RepeatRule),
     Build(BuildRule),
+    Rest(u32),
 }
 
 /// A `drop` line: a segment, a group, or one field of a segment that is left out on purpose.
@@ -155,10 +156,11 @@ impl Rule {
             Rule::FirstRep(made) => made.line,
             Rule::RepeatField(made) => made.line,
             Rule::Build(made) => made.line,
+            Rule::Rest(line) => *line,
         }
     }
 
-    /// The number of the field that it makes. It takes no memory.
+    /// The number of the field that it makes, 0 for the rest. It takes no memory.
     pub fn field(&self) -> u32
         ensures { result ≡ (rule self.now).field }
     {
@@ -167,6 +169,7 @@ impl Rule {
             Rule::FirstRep(made) => made.field,
             Rule::RepeatField(made) => made.field,
             Rule::Build(made) => made.field,
+            Rule::Rest(_) => 0,
         }
     }
 
@@ -178,7 +181,7 @@ impl Rule {
             Rule::CopyField(_) => None,
             Rule::FirstRep(made) => some_condition(&made.condition),
             Rule::RepeatField(made) => some_condition(&made.condition),
-            Rule::Build(_) => None,
+            Rule::Build(_) | Rule::Rest(_) => None,
         }
     }
 }

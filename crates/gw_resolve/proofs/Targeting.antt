@@ -2,18 +2,18 @@
 use Rattle.std.proofs.Common.{◌≡◌, ℕ, ◌+◌, ◌<◌, List, [], ◌++◌, drop, get_or, length, Option, Some, None, refl, sym, ap, ◌∙◌}
 use Rattle.std.specs.Prelude.{not, nat_lt, unwrap_or, option_and_then}
 use Rattle.std.proofs.lemmas.List.{append-nil, append_assoc}
-use Rattle.gw_profile.specs.Shapes.{Forest}
+use Rattle.gw_profile.specs.Shapes.{FieldValue, Forest}
 use Rattle.gw_maplang.specs.declared.item.GroupItem.{GroupItem}
 use Rattle.gw_maplang.specs.declared.item.FlatItem.{FlatItem}
 use Rattle.gw_maplang.specs.declared.item.Item.{Item, EachAs, EachFlat, EachFlat'}
-use Rattle.gw_maplang.specs.Shapes.{Items, nothing}
+use Rattle.gw_maplang.specs.Shapes.{RuleValue, Items, nothing}
 use Rattle.gw_maplang.specs.Seen.{with_item, row_items, all_items}
 use Rattle.gw_maplang.proofs.Rows.{group_items, flat_items}
 use Rattle.gw_resolve.specs.Failures.{Failure, at_line, fails, or_later}
 use Rattle.gw_resolve.specs.Order.{is_segment, is_group}
-use Rattle.gw_resolve.specs.Places.{child, nodes_of_child}
+use Rattle.gw_resolve.specs.Places.{child, nodes_of_child, fields_of}
 use Rattle.gw_profile.specs.Labels.{labelled}
-use Rattle.gw_resolve.specs.Naming.{labels, first_or, node_or, after, label_failures, flat_failures, target_failures}
+use Rattle.gw_resolve.specs.Naming.{listed_of, labels, first_or, node_or, after, label_failures, flat_failures, target_failures}
 use Rattle.gw_resolve.specs.Outcome.{reached}
 use Rattle.gw_resolve.proofs.Noting.{front, added_one}
 use Rattle.gw_resolve.proofs.Labels.{flat_labels}
@@ -62,6 +62,11 @@ group_reached nodes j g = ap (λ l. after j nodes (first_or (labels l))) (sym (g
 
 pub flat_reached : (nodes : Forest) (j node : ℕ) (f : FlatItem) (xs : List Item) → xs ≡ f.items.items → node ≡ after j nodes (first_or (labels (all_items xs))) → node ≡ reached nodes j (EachFlat f)
 flat_reached nodes j node f xs a n = n ∙ ap (after j nodes) (ap first_or (flat_labels (EachFlat f) f xs refl a))
+
+-- the fields that the rest of a segment leaves out, as the program finds them
+pub listed_there : (nodes : Forest) (label there : List ℕ) (fields : List FieldValue) (rules : List RuleValue) (k : ℕ) → there ≡ label → k ≡ node_or 0 nodes label → fields ≡ fields_of (child nodes k)
+    → listed_of there fields rules ≡ listed_of label (fields_of (child nodes (node_or 0 nodes label))) rules
+listed_there nodes label there fields rules k same at e = λ i. listed_of (same i) ((e ∙ ap (λ n. fields_of (child nodes n)) at) i) rules
 
 -- of a label alone
 pub label_targets : (first : List Failure) (nodes : Forest) (j line : ℕ) (label whole : List ℕ) (new : List Failure) → label ≡ whole → new ≡ first ++ label_failures nodes is_segment j line label → new ≡ first ++ (label_failures nodes is_segment j line whole ++ [])

@@ -1,12 +1,14 @@
 -- What the labels of a map name: source paths (rules 1 and 2), target labels (rule 3), and the map without labels.
 use Rattle.std.specs.Prelude.{ℕ, suc, Bool, true, false, ◌&&◌, not, nat_lt, if◌then◌else◌, List, [], ◌∷◌, ◌++◌, map, flat_map, unwrap_or, slice_get, Option, Some, None, option_map, option_and_then, bytes_eq}
 use Rattle.std.specs.List.{list_all}
-use Rattle.gw_profile.specs.Shapes.{Forest, nothing, ProfileValue}
+use Rattle.gw_profile.specs.Shapes.{FieldValue, Forest, nothing, ProfileValue}
 use Rattle.gw_profile.specs.Labels.{labelled}
+use Rattle.gw_profile.specs.WellFormed.{field_numbers}
 use Rattle.gw_profile.specs.Line.{allows}
 use Rattle.gw_maplang.specs.Shapes as raw
-use Rattle.gw_resolve.specs.Places.{Element, a_segment, a_group, the_whole, nodes_of, child, nodes_of_child, Place, card_of, found, element_of, within}
-use Rattle.gw_resolve.specs.Resolved.{Reference, FieldCondition, Source, of_field, of_current, Leaf, const, copied, looked_up, dated, Alternative, At, Making, copy, first, repeat, build, Rule, Items, no_items, segment_item, group_item, flat_item, Drop, Resolved}
+use Rattle.gw_maplang.specs.Lawful.{is_msh, rule_fields}
+use Rattle.gw_resolve.specs.Places.{Element, a_segment, a_group, the_whole, nodes_of, child, nodes_of_child, Place, card_of, fields_of, found, element_of, within}
+use Rattle.gw_resolve.specs.Resolved.{Reference, FieldCondition, Source, of_field, of_current, Leaf, const, copied, looked_up, dated, Alternative, At, Making, copy, first, repeat, build, the_rest, Rule, is_listed, Items, no_items, segment_item, group_item, flat_item, Drop, Resolved}
 use Rattle.gw_resolve.specs.Order.{is_segment, is_group}
 use Rattle.gw_resolve.specs.Failures.{Failure, at_line, fails, where_so, or_later}
 
@@ -123,6 +125,7 @@ making_failures scope line (raw.Copies from) = read_failures scope line from
 making_failures scope line (raw.Firsts from condition) = read_failures scope line from
 making_failures scope line (raw.Repeats from condition leaves) = read_failures scope line from ++ flat_map (leaf_failures scope) leaves
 making_failures scope line (raw.Builds leaves) = flat_map (leaf_failures scope) leaves
+making_failures scope line raw.CopiesRest = []
 
 abbrev pub rule_failures : List Element → raw.RuleValue → List Failure
 rule_failures scope r = making_failures scope r.line r.making
@@ -251,14 +254,40 @@ abbrev pub at_leaf : List raw.TableValue → List Element → raw.LeafValue → 
 at_leaf tables scope l =
     record { line = l.line; comp = l.place.comp; sub = l.place.sub; leaf = leaf tables scope l.leaf; others = map (alternative tables scope) l.others }
 
-abbrev pub making : List raw.TableValue → List Element → raw.Making → Making
-making tables scope (raw.Copies from) = copy (reference scope from)
-making tables scope (raw.Firsts from condition) = first (reference scope from) condition
-making tables scope (raw.Repeats from condition leaves) = repeat (reference scope from) condition (map (at_leaf tables scope) leaves)
-making tables scope (raw.Builds leaves) = build (map (at_leaf tables scope) leaves)
+-- the rest of a segment, which is that of the one that is walked
 
-abbrev pub rule : List raw.TableValue → List Element → raw.RuleValue → Rule
-rule tables scope r = record { line = r.line; field = r.field; making = making tables scope r.making }
+-- fields 1 and 2 of MSH are its delimiters
+abbrev pub delimiters : List ℕ → List ℕ
+delimiters label = if is_msh label then 1 ∷ 2 ∷ [] else []
+
+-- the fields that it leaves out: these, those that the target lists, and those that have a rule
+abbrev pub listed_of : List ℕ → List FieldValue → List raw.RuleValue → List ℕ
+listed_of label fields rules = delimiters label ++ (field_numbers fields ++ rule_fields rules)
+
+abbrev pub walked_fields : List Element → List FieldValue
+walked_fields scope = fields_of (slice_get scope 0)
+
+-- the fields that it takes of those that the source lists
+abbrev pub one_taken : List ℕ → FieldValue → List ℕ
+one_taken listed f = if is_listed listed f.number then [] else f.number ∷ []
+
+abbrev pub taken_of : List ℕ → List FieldValue → List ℕ
+taken_of listed fields = flat_map (one_taken listed) fields
+
+-- in a segment whose rest leaves these fields out
+abbrev pub making : List raw.TableValue → List ℕ → List Element → raw.Making → Making
+making tables listed scope (raw.Copies from) = copy (reference scope from)
+making tables listed scope (raw.Firsts from condition) = first (reference scope from) condition
+making tables listed scope (raw.Repeats from condition leaves) = repeat (reference scope from) condition (map (at_leaf tables scope) leaves)
+making tables listed scope (raw.Builds leaves) = build (map (at_leaf tables scope) leaves)
+making tables listed scope raw.CopiesRest = the_rest itself listed (taken_of listed (walked_fields scope))
+
+abbrev pub rule : List raw.TableValue → List ℕ → List Element → raw.RuleValue → Rule
+rule tables listed scope r = record { line = r.line; field = r.field; making = making tables listed scope r.making }
+
+-- those that an item for a segment of these nodes leaves out
+abbrev pub item_listed : Forest → raw.SegmentItem → List ℕ
+item_listed nodes s = listed_of s.label (fields_of (child nodes (node_or 0 nodes s.label))) s.rules
 
 -- a condition, within what is walked
 abbrev pub condition_within : List Element → Option raw.FieldCondition → Option FieldCondition
@@ -274,7 +303,7 @@ resolved_items tables scope nodes (raw.segment s rest) =
       child = node_or 0 nodes s.label;
       place = option_map (λ w. place_or scope w.path) s.source;
       condition = condition_within (walked_if scope s.source) (condition_if s.source);
-      rules = map (rule tables (walked_if scope s.source)) s.rules;
+      rules = map (rule tables (item_listed nodes s) (walked_if scope s.source)) s.rules;
     })
     (resolved_items tables scope nodes rest)
 resolved_items tables scope nodes (raw.group g items rest) =

@@ -1,5 +1,6 @@
 -- A map whose labels were looked up: it names target nodes by their numbers, and source places by steps.
-use Rattle.std.specs.Prelude.{ℕ, ◌==◌, ◌&&◌, List, ◌∷◌, Option, Some, None, find}
+use Rattle.std.specs.Prelude.{ℕ, ◌==◌, ◌&&◌, Bool, if◌then◌else◌, List, ◌∷◌, Option, Some, None, find}
+use Rattle.std.specs.List.{list_any}
 use Rattle.gw_maplang.specs.declared.rule.DateDigits.{DateDigits}
 use Rattle.gw_maplang.specs.Shapes.{Rows, Condition}
 use Rattle.gw_resolve.specs.Places.{Place}
@@ -40,13 +41,15 @@ alternatives a = record { line = a.line; leaf = a.leaf } ∷ a.others
 
 -- How a field is made: as another, as its first repetition, a repetition of leaves for each of its own, or one of leaves.
 -- Where there is a condition, only the repetitions count that it chooses.
+-- The rest is each field that isn't listed and has no rule, of the segment at a place. The fields that the source lists are taken.
 pub data Making : Type 0 where
   copy : (from : Reference) → Making
   first : (from : Reference) (condition : Option Condition) → Making
   repeat : (from : Reference) (condition : Option Condition) (leaves : List At) → Making
   build : (leaves : List At) → Making
+  the_rest : (from : Place) (listed taken : List ℕ) → Making
 
--- the rule of a target field
+-- the rule of a target field, 0 for the rest
 pub record Rule : Type 0 where
   pub line : ℕ
   pub field : ℕ
@@ -98,6 +101,31 @@ pub record Resolved : Type 0 where
 
 abbrev pub rule_of : List Rule → ℕ → Option Rule
 rule_of rules field = find (λ r. r.field == field) rules
+
+-- one of these numbers
+abbrev pub is_listed : List ℕ → ℕ → Bool
+is_listed listed field = list_any (λ n. n == field) listed
+
+-- a field is that of the same number, of the segment at the place
+abbrev pub same_of : ℕ → Place → ℕ → Rule
+same_of line from field = record { line = line; field = field; making = copy (record { place = from; field = field }) }
+
+-- what the rest gives for a field
+abbrev pub carried : ℕ → Making → ℕ → Option Rule
+carried line (the_rest from listed taken) field = if is_listed listed field then None else Some (same_of line from field)
+carried line making field = None
+
+abbrev pub rest_of : Option Rule → ℕ → Option Rule
+rest_of None field = None
+rest_of (Some r) field = carried r.line r.making field
+
+abbrev pub or_rule : Option Rule → Option Rule → Option Rule
+or_rule None other = other
+or_rule (Some r) other = Some r
+
+-- what makes a field: its own rule, or the rest
+abbrev pub maker_of : List Rule → ℕ → Option Rule
+maker_of rules field = or_rule (rule_of rules field) (rest_of (rule_of rules 0) field)
 
 abbrev pub leaf_at : List At → ℕ → ℕ → Option At
 leaf_at leaves comp sub = find (λ a. a.comp == comp && a.sub == sub) leaves

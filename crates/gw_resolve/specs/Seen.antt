@@ -17,7 +17,7 @@ use Rattle.gw_maplang.specs.Seen.{condition as seen_condition, condition_some}
 use Rattle.gw_maplang.specs.Shapes.{TableValue, table_of}
 use Rattle.gw_resolve.specs.Naming.{no_rows}
 use Rattle.gw_resolve.specs.Places.{Element, a_segment, a_group, the_whole, Place, Found}
-use Rattle.gw_resolve.specs.Resolved.{Reference, FieldCondition, Source, of_field, of_current, Leaf, const, copied, looked_up, dated, Alternative, At, Making, copy, first, repeat, build, Rule, Items, no_items, segment_item, group_item, flat_item, Drop, first_child}
+use Rattle.gw_resolve.specs.Resolved.{Reference, FieldCondition, Source, of_field, of_current, Leaf, const, copied, looked_up, dated, Alternative, At, Making, copy, first, repeat, build, the_rest, Rule, Items, no_items, segment_item, group_item, flat_item, Drop, first_child}
 
 -- ---- counts
 
@@ -96,6 +96,7 @@ making tables (resolved.Making.TheVariants.Copy from) = copy (reference from)
 making tables (resolved.Making.TheVariants.First from chosen) = first (reference from) (condition_some chosen)
 making tables (resolved.Making.TheVariants.Repeat from chosen each) = repeat (reference from) (condition_some chosen) (map (at_leaf tables) each.items)
 making tables (resolved.Making.TheVariants.Build each) = build (map (at_leaf tables) each.items)
+making tables (resolved.Making.TheVariants.Rest from listed taken) = the_rest (place from) listed.items taken.items
 
 abbrev pub rule : List TableValue → resolved.Rule.Rule → Rule
 rule tables r = record { line = r.line; field = r.field; making = making tables r.making }

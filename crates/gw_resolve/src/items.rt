@@ -13,6 +13,7 @@ use crate::failure::Failure;
 use crate::led::{PathUse, lead};
 use crate::lost::{NameFailures, hide};
 use crate::resolved::{FieldCondition, FlatItem, GroupItem, Item, ScopePath, SegmentItem};
+use crate::rest::{RuledSegment, fields_in};
 use crate::rules::{field_condition, rules};
 use crate::targets::{NodeKind, flat_target, label_target};
 use gw_maplang::Walk;
@@ -88,7 +89,12 @@ fn segment_from(
         &made.walk,
         PathUse::WalkSegments,
     )?;
-    let rules = rules(alloc, &mut lost.paths, &there.inner, &made.rules)?;
+    let target = RuledSegment {
+        label: &made.label,
+        fields: fields_in(level, aimed.child),
+        rules: &made.rules,
+    };
+    let rules = rules(alloc, &mut lost.paths, &there.inner, target)?;
     hide(&mut lost.paths, there.leads, there.kept);
     Ok(ResolvedItem {
         item: Item::Segment(SegmentItem {
@@ -122,7 +128,12 @@ fn segment_always(
         made.line,
         &made.label,
     )?;
-    let rules = rules(alloc, &mut lost.paths, scope, &made.rules)?;
+    let target = RuledSegment {
+        label: &made.label,
+        fields: fields_in(level, aimed.child),
+        rules: &made.rules,
+    };
+    let rules = rules(alloc, &mut lost.paths, scope, target)?;
     Ok(ResolvedItem {
         item: Item::Segment(SegmentItem {
             line: made.line,

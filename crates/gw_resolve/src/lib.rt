@@ -13,6 +13,7 @@ mod nodes;
 mod paths;
 mod positions;
 mod resolved;
+mod rest;
 mod rules;
 mod targets;
 

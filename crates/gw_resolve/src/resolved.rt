@@ -50,12 +50,15 @@ pub struct At {
 
 /// How a field is made: as another, as its first repetition, a repetition of leaves for each of its own, or one of leaves.
 /// If there is a condition, only the repetitions count that meet it.
+/// The rest is for field 0. It makes each field that isn't one of the first numbers and has no rule, as that of the segment at
+/// the place. The other numbers are those of the fields that it takes of what the source lists.
 #[derive(Drop)]
 pub enum Making {
     Copy(Reference),
     First(Reference, Option<Condition>),
     Repeat(Reference, Option<Condition>, Vec<At>),
     Build(Vec<At>),
+    Rest(ScopePath, Vec<u32>, Vec<u32>),
 }
 
 /// The rule of a target field.

@@ -5,6 +5,7 @@ ghost use Rattle.gw_resolve.specs.Naming as spec;
 ghost use Rattle.gw_resolve.specs.Outcome.{IsMadeOf, AreMadeOf};
 ghost use Rattle.gw_resolve.specs.Seen as seen;
 ghost use Rattle.gw_resolve.specs.Seen.{Notes, scope as walked};
+ghost use Rattle.gw_resolve.specs.own.Looking.{listed_in};
 
 use crate::element::ScopeNode;
 use crate::failure::Failure;
@@ -12,6 +13,7 @@ use crate::led::{PathUse, lead};
 use crate::resolved::{
     Alternative, At, FieldCondition, Making, Reference, ResolvedLeaf, Rule, Source,
 };
+use crate::rest::{RuledSegment, rest};
 use gw_maplang::{ChosenValues, Condition, FieldPath, Leaf, LeafRule, Ref};
 use std::alloc::{AllocError, Global};
 
@@ -174,9 +176,10 @@ fn making(
     alloc: Global,
     found: &mut Vec<Failure>,
     scope: &[ScopeNode<'_, '_>],
+    target: RuledSegment<'_>,
     made: &gw_maplang::Rule,
 ) -> Result<Making, AllocError>
-    ensures made { IfOk result (IsMadeOf seen.making spec.making (walked scope.now) (raw.rule made.now).making) }
+    ensures made { IfOk result (IsMadeOf seen.making (λ tables. spec.making tables (listed_in target.entry)) (walked scope.now) (raw.rule made.now).making) }
     ensures failures { OnOk result (Notes found.old found.new (spec.rule_failures (walked scope.now) (raw.rule made.now))) }
 {
     match made {
@@ -199,6 +202,7 @@ fn making(
             let each = leaves(alloc, found, scope, &made.leaves)?;
             Ok(Making::Build(each))
         }
+        gw_maplang::Rule::Rest(_) => rest(alloc, scope, target),
     }
 }
 
@@ -207,14 +211,15 @@ pub(crate) fn rules(
     alloc: Global,
     found: &mut Vec<Failure>,
     scope: &[ScopeNode<'_, '_>],
-    all: &[gw_maplang::Rule],
+    target: RuledSegment<'_>,
 ) -> Result<Vec<Rule>, AllocError>
-    ensures made { IfOk result (λ v. AreMadeOf seen.rule spec.rule (walked scope.now) (map raw.rule all.now) v.items) }
-    ensures failures { OnOk result (Notes found.old found.new (flat_map (spec.rule_failures (walked scope.now)) (map raw.rule all.now))) }
+    ensures made { IfOk result (λ v. AreMadeOf seen.rule (λ tables. spec.rule tables (listed_in target.entry)) (walked scope.now)
+        (map raw.rule target.entry.rules.now) v.items) }
+    ensures failures { OnOk result (Notes found.old found.new (flat_map (spec.rule_failures (walked scope.now)) (map raw.rule target.entry.rules.now))) }
 {
     let mut built = Vec::new(alloc);
-    for made in all {
-        let making = making(alloc, found, scope, made)?;
+    for made in target.rules {
+        let making = making(alloc, found, scope, target, made)?;
         built.push(Rule {
             line: made.line(),
             field: made.field(),

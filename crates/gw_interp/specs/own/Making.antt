@@ -1,6 +1,6 @@
 -- Texts that are put into the last segment at all places of a kind: of a repetition, of a field.
-use Rattle.std.specs.Prelude.{◌≡◌, ℕ, ◌<◌, List, [], ◌∷◌, length, map, Option, Some, None, unwrap_or}
-use Rattle.std.specs.List.{AllByRecursion}
+use Rattle.std.specs.Prelude.{◌≡◌, ℕ, ◌<◌, ◌≤◌, ◌==◌, ◌&&◌, not, Bool, true, false, List, [], ◌∷◌, length, map, Option, Some, None, unwrap_or}
+use Rattle.std.specs.List.{AllByRecursion, list_any}
 use Rattle.std.specs.FinMap as texts
 use Rattle.gw_er7.specs.Message.{Texts, text_of, SegmentValue, first_field, IsEntry}
 use Rattle.gw_er7.specs.Building.{IsBegun, with_last}
@@ -12,13 +12,14 @@ use Rattle.gw_maplang.specs.Shapes.{TableValue}
 use Rattle.gw_maplang.specs.Seen.{condition_some}
 use Rattle.gw_resolve.specs.declared.resolved.At as declared
 use Rattle.gw_resolve.specs.declared.resolved.Reference.{Reference}
+use Rattle.gw_resolve.specs.declared.resolved.Rule as declared_rules
 use Rattle.gw_resolve.specs.Seen.{reference, at_leaf}
-use Rattle.gw_resolve.specs.Resolved.{At, leaf_at, Making, repeat, Rule}
+use Rattle.gw_resolve.specs.Resolved.{At, leaf_at, Making, repeat, Rule, rule_of, rest_of}
 use Rattle.gw_interp.specs.declared.making.Chosen.{Chosen}
 use Rattle.gw_interp.specs.declared.copying.ValuePath.{ValuePath}
 use Rattle.gw_interp.specs.declared.reading.Repetition.{Repetition}
 use Rattle.gw_interp.specs.own.Borrowed.{scope}
-use Rattle.gw_interp.specs.Meaning.{Walked, walked, AtMeans, MakingMeans}
+use Rattle.gw_interp.specs.Meaning.{Walked, walked, AtMeans, MakingMeans, RuleMeans}
 use Rattle.gw_interp.specs.own.Sourced.{current_texts}
 use Rattle.gw_interp.specs.own.Putting.{last_name, last_texts}
 use Rattle.gw_interp.specs.own.Filling.{message_of}
@@ -142,4 +143,55 @@ pub record AreRulesMade (w : Walked) (rules : List Rule) (old new : List Segment
   pub others : new ≡ with_last (λ s. record s { at = last_texts new }) old
   pub each : AllByRecursion (HasTexts w new) rules
   pub elsewhere : (field : ℕ) (p : ℕ × (ℕ × ℕ)) → (Among field (fields rules) → ⊥) → texts.get (last_texts new) (field_key field p) ≡ texts.get (last_texts old) (field_key field p)
+  pub keeps : IsBegun old → IsBegun new
+
+-- ---- the rest
+
+-- the rest gives a field: it has no rule, and isn't listed
+abbrev pub is_given : List declared_rules.Rule → List ℕ → ℕ → Bool
+is_given rules listed field = not (list_any (λ r. r.field == field) rules) && not (list_any (λ n. n == field) listed)
+
+-- those of these fields that are given may be copied, each to the one of its number
+pub record MayCopyFields (given : ℕ → Bool) (m : Texts) (old : List SegmentValue) : Type 0 where
+  pub begun : 0 < length old
+  pub free : (field : ℕ) → given field ≡ true → (p : ℕ × (ℕ × ℕ)) → texts.get (last_texts old) (field_key field p) ≡ None
+  pub entry : (field : ℕ) → given field ≡ true → (p : ℕ × (ℕ × ℕ)) (text : List ℕ) → FieldMeans (Copies m field) p text → 0 < length text → IsEntry (first_field (last_name old)) (field_key field p, text)
+
+-- a field was copied where it is given, and nothing else differs
+abbrev pub IsGivenCopied : Bool → Texts → ℕ → List SegmentValue → List SegmentValue → Type 0
+IsGivenCopied true m field old new = IsFieldMade field (Copies m field) old new
+IsGivenCopied false m field old new = new ≡ old
+
+abbrev pub MayCopyGiven : Bool → Texts → ℕ → List SegmentValue → Type 0
+MayCopyGiven true m field old = MayMakeField field (Copies m field) old
+MayCopyGiven false m field old = Unit {0}
+
+-- those up to this number were copied, and nothing else differs
+pub record AreCopiedTo (given : ℕ → Bool) (m : Texts) (n : ℕ) (old new : List SegmentValue) : Type 0 where
+  pub others : new ≡ with_last (λ s. record s { at = last_texts new }) old
+  pub each : (field : ℕ) → given field ≡ true → 1 ≤ field → field ≤ n → (p : ℕ × (ℕ × ℕ)) → FieldMeans (Copies m field) p (unwrap_or (texts.get (last_texts new) (field_key field p)) [])
+  pub elsewhere : (field : ℕ) → (given field ≡ true → field ≤ n → ⊥) → (p : ℕ × (ℕ × ℕ)) → texts.get (last_texts new) (field_key field p) ≡ texts.get (last_texts old) (field_key field p)
+  pub keeps : IsBegun old → IsBegun new
+
+-- all were
+pub record AreFieldsCopied (given : ℕ → Bool) (m : Texts) (old new : List SegmentValue) : Type 0 where
+  pub others : new ≡ with_last (λ s. record s { at = last_texts new }) old
+  pub each : (field : ℕ) → given field ≡ true → 1 ≤ field → (p : ℕ × (ℕ × ℕ)) → FieldMeans (Copies m field) p (unwrap_or (texts.get (last_texts new) (field_key field p)) [])
+  pub elsewhere : (field : ℕ) → (given field ≡ true → ⊥) → (p : ℕ × (ℕ × ℕ)) → texts.get (last_texts new) (field_key field p) ≡ texts.get (last_texts old) (field_key field p)
+  pub keeps : IsBegun old → IsBegun new
+
+abbrev pub RestMeans : Walked → List Rule → ℕ → ℕ × (ℕ × ℕ) → List ℕ → Type 0
+RestMeans w rules field p text = RuleMeans w (rest_of (rule_of rules 0) field) p.0 p.1.0 p.1.1 text
+
+-- no field without a rule has a text yet, and those of the rest may be put there
+pub record MayRest (w : Walked) (rules : List Rule) (old : List SegmentValue) : Type 0 where
+  pub begun : 0 < length old
+  pub free : (field : ℕ) → rule_of rules field ≡ None → (p : ℕ × (ℕ × ℕ)) → texts.get (last_texts old) (field_key field p) ≡ None
+  pub entry : (field : ℕ) → rule_of rules field ≡ None → (p : ℕ × (ℕ × ℕ)) (text : List ℕ) → RestMeans w rules field p text → 0 < length text → IsEntry (first_field (last_name old)) (field_key field p, text)
+
+-- each field without a rule has the texts of the rest, and nothing else differs
+pub record IsRestMade (w : Walked) (rules : List Rule) (old new : List SegmentValue) : Type 0 where
+  pub others : new ≡ with_last (λ s. record s { at = last_texts new }) old
+  pub each : (field : ℕ) → rule_of rules field ≡ None → (p : ℕ × (ℕ × ℕ)) → RestMeans w rules field p (unwrap_or (texts.get (last_texts new) (field_key field p)) [])
+  pub ruled : (field : ℕ) (r : Rule) → rule_of rules field ≡ Some r → (p : ℕ × (ℕ × ℕ)) → texts.get (last_texts new) (field_key field p) ≡ texts.get (last_texts old) (field_key field p)
   pub keeps : IsBegun old → IsBegun new

@@ -3,9 +3,9 @@ use Rattle.std.specs.Prelude.{◌≡◌, ◌≢◌, ℕ, ◌<◌, List, [], ◌�
 use Rattle.std.specs.List.{AllByRecursion}
 use Rattle.gw_er7.specs.Names.{IsName, header_name}
 use Rattle.gw_er7.specs.Message.{SegmentValue, first_field, IsEntry}
-use Rattle.gw_profile.specs.Shapes.{Forest}
+use Rattle.gw_profile.specs.Shapes.{FieldValue, Forest}
 use Rattle.gw_resolve.specs.Places.{Place, child, nodes_of_child, name_of}
-use Rattle.gw_resolve.specs.Resolved.{FieldCondition, At, alternatives, Making, copy, first, repeat, build, Rule, rule_of, Items, no_items, segment_item, group_item, flat_item}
+use Rattle.gw_resolve.specs.Resolved.{FieldCondition, At, alternatives, Making, copy, first, repeat, build, the_rest, Rule, maker_of, Items, no_items, segment_item, group_item, flat_item}
 use Rattle.gw_resolve.specs.Lawful.{LawfulRules}
 use Rattle.gw_interp.specs.Occurrences.{Occurrence, at_place}
 use Rattle.gw_interp.specs.Meaning.{Walked, texts_from, walking, IsChosen, walked, chosen, RuleMeans}
@@ -22,11 +22,13 @@ NoFaultIn w (copy from) = Unit {0}
 NoFaultIn w (first from condition) = Unit {0}
 NoFaultIn w (repeat from condition leaves) = (rep : ℕ) → IsChosen condition (texts_from w from) from.field rep → NoFaults (walking w from rep) leaves
 NoFaultIn w (build leaves) = NoFaults w leaves
+NoFaultIn w (the_rest from listed taken) = Unit {0}
 
 -- each text that the rules give may stand at its place, and none is a fault
 pub record MayImage (w : Walked) (name : List ℕ) (rules : List Rule) : Type 0 where
-  pub lawful : LawfulRules name rules
-  pub entries : (field rep comp sub : ℕ) (text : List ℕ) → RuleMeans w (rule_of rules field) rep comp sub text → 0 < length text → IsEntry (first_field name) (field ∷ rep ∷ comp ∷ sub ∷ [], text)
+  pub target : List FieldValue
+  pub lawful : LawfulRules name target rules
+  pub entries : (field rep comp sub : ℕ) (text : List ℕ) → RuleMeans w (maker_of rules field) rep comp sub text → 0 < length text → IsEntry (first_field name) (field ∷ rep ∷ comp ∷ sub ∷ [], text)
   pub no_faults : AllByRecursion (λ (r : Rule). NoFaultIn w r.making) rules
 
 -- ---- items

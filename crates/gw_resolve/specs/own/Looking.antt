@@ -1,5 +1,5 @@
 -- Parts of the looking up of labels.
-use Rattle.std.specs.Prelude.{◌≡◌, ℕ, ◌+◌, Bool, not, if◌then◌else◌, length, List, [], ◌∷◌, ◌++◌, Option, Some, None, option_map}
+use Rattle.std.specs.Prelude.{◌≡◌, ℕ, ◌+◌, Bool, not, if◌then◌else◌, length, List, [], ◌∷◌, ◌++◌, map, Option, Some, None, option_map}
 use Rattle.std.specs.Global.{Vec}
 use Rattle.gw_profile.specs.Shapes.{Forest}
 use Rattle.gw_maplang.specs.Shapes.{Path, Walk}
@@ -15,7 +15,10 @@ use Rattle.gw_resolve.specs.Failures.{Failure, at_line, fails}
 use Rattle.gw_resolve.specs.Order.{is_segment, is_group}
 use Rattle.gw_resolve.specs.declared.led.PathUse as uses
 use Rattle.gw_resolve.specs.declared.targets.NodeKind as kinds
-use Rattle.gw_resolve.specs.Naming.{has_label, itself, or_else, steps_of, place_of, place_or, but_last, has_place, ends_at_segment, is_single_place, read_steps, condition_within, condition_failures}
+use Rattle.gw_maplang.specs.Seen.{rule}
+use Rattle.gw_profile.specs.Seen.{field}
+use Rattle.gw_resolve.specs.declared.rest.RuledSegment.{RuledSegment}
+use Rattle.gw_resolve.specs.Naming.{listed_of, has_label, itself, or_else, steps_of, place_of, place_or, but_last, has_place, ends_at_segment, is_single_place, read_steps, condition_within, condition_failures}
 
 abbrev pub further : ℕ → Place → Place
 further n place = record { out = n + place.out; steps = place.steps }
@@ -68,3 +71,7 @@ IsTimes e below result = (f : Option Found) → found_value below ≡ saturated_
 -- These are the steps to which the labels lead from the nodes, behind those.
 abbrev pub AreStepsBehind : List ℕ → Forest → Path → Option (Vec ℕ) → Type 0
 AreStepsBehind before nodes path steps = option_map (λ (v : Vec ℕ). v.items) steps ≡ option_map (λ more. before ++ more) (steps_of nodes path)
+
+-- the fields that the rest of a segment leaves out
+abbrev pub listed_in : RuledSegment → List ℕ
+listed_in target = listed_of target.label.now (map field target.fields.now) (map rule target.rules.now)

@@ -1,9 +1,10 @@
 use Rattle.std.proofs.Common.{Some, None, sym, subst, map}
 use Rattle.gw_maplang.specs.Seen.{condition, condition_some}
-use Rattle.gw_resolve.specs.Resolved.{repeat, build}
+use Rattle.gw_resolve.specs.Resolved.{repeat, build, the_rest}
 use Rattle.gw_resolve.specs.Seen.{reference, at_leaf, making}
 use Rattle.gw_interp.specs.own.Making.{seen_from, MayMakeBy, IsMadeBy}
 use Rattle.gw_interp.proofs.Fills.{on_ok}
+use Rattle.gw_interp.proofs.Ruled.{rest_makes_nothing}
 use Rattle.gw_interp.proofs.making.make_rule.Goals as goal
 
 pub make_copy-requires-clause-may : goal.make_copy-requires-clause-may
@@ -48,3 +49,9 @@ returns-in-Build c =
     (λ made. subst (λ m. IsMadeBy (seen_from c.args.scope.now) (making c.args.rows.now.tables m) c.args.rule.now.field c.args.builder.now c.make_build.new.builder) (sym c.in-Build.is)
     (subst (λ l. IsMadeBy (seen_from c.args.scope.now) (build (map (at_leaf c.args.rows.now.tables) l)) c.args.rule.now.field c.args.builder.now c.make_build.new.builder) c.deref-in-Build.ensures.value made))
     c.make_build.ensures
+
+pub returns-in-Rest : goal.returns-in-Rest
+returns-in-Rest c =
+    subst (λ m. IsMadeBy (seen_from c.args.scope.now) (making c.args.rows.now.tables m) c.args.rule.now.field c.args.builder.now c.args.builder.now) (sym c.in-Rest.is)
+    (rest_makes_nothing (seen_from c.args.scope.now) _ _ _ c.args.rule.now.field c.args.builder.now
+    (subst (λ m. MayMakeBy (seen_from c.args.scope.now) (making c.args.rows.now.tables m) c.args.rule.now.field c.args.builder.now) c.in-Rest.is c.requires.may))

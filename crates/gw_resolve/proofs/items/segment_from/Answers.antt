@@ -1,20 +1,21 @@
-use Rattle.std.proofs.Common.{Some, map, ap, ◌∙◌}
+use Rattle.std.proofs.Common.{Some, map, sym, ap, ◌∙◌}
 use Rattle.gw_maplang.specs.Seen.{rule}
 use Rattle.gw_profile.specs.Labels.{nodes_in}
 use Rattle.gw_resolve.specs.Naming as spec
 use Rattle.gw_resolve.specs.Resolved.{segment_item}
 use Rattle.gw_resolve.specs.Seen.{scope as walked, failures}
 use Rattle.gw_resolve.proofs.Noting.{noted_twice, hidden, from_paths}
-use Rattle.gw_resolve.proofs.Targeting.{label_targets}
+use Rattle.gw_resolve.proofs.Targeting.{label_targets, listed_there}
 use Rattle.gw_resolve.proofs.items.segment_from.Goals as goal
 
 pub returns : goal.returns
 returns c =
-    let inner = ap walked c.deref-2.ensures.value ∙ c.in_ok-there.ensures.inner in
+    let inner = ap walked c.deref-4.ensures.value ∙ c.in_ok-there.ensures.inner in
+    let listed = listed_there (nodes_in c.args.level) _ _ _ (map rule c.deref-3.result.now) _ (c.deref-2.ensures.value ∙ sym c.deref.ensures.value) c.in_ok-aimed.ensures.child c.fields_in.ensures in
     record {
       item = λ tables rest.
           rw (← c.deref.ensures.value, ← c.deref-3.ensures.value)
-          (λ i. segment_item (record { line = c.args.made.now.line; child = c.in_ok-aimed.ensures.child i; place = Some (c.in_ok-there.ensures.place i); condition = c.in_ok-there.ensures.condition i; rules = (c.in_ok-rules.ensures.made tables ∙ ap (λ s. map (spec.rule tables s) (map rule c.deref-3.result.now)) inner) i })
+          (λ i. segment_item (record { line = c.args.made.now.line; child = c.in_ok-aimed.ensures.child i; place = Some (c.in_ok-there.ensures.place i); condition = c.in_ok-there.ensures.condition i; rules = (c.in_ok-rules.ensures.made tables ∙ (λ j. map (spec.rule tables (listed j) (inner j)) (map rule c.deref-3.result.now))) i })
           (spec.resolved_items tables (walked c.args.scope.now) (nodes_in c.args.level) rest));
       node = c.in_ok-aimed.ensures.node ∙ ap (spec.after c.args.j (nodes_in c.args.level)) c.deref.ensures.value;
       paths =

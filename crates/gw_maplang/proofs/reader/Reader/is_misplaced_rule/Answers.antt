@@ -17,8 +17,8 @@ returns c =
     let segment = c.self.invariant.has_segment ∙ ap Fault.open_segment c.self.view_is in
     let second = ap (λ (p : Held.OpenParts.OpenParts). p.second) c.self.invariant.has_open_parts ∙ ap Fault.is_second c.self.view_is in
     let stray = λ (b : Bool) (ls : List LeafValue). list_any (λ (l : LeafValue). Fault.is_stray false l.leaf || Fault.is_early b l.leaf) ls in
-    last_of (Fault.is_misplaced made.field (Fault.open_segment c.args.self.now)) (Fault.is_hasty_rule (Fault.is_second c.args.self.now) made.making)
+    last_of (Fault.is_misplaced made (Fault.open_segment c.args.self.now)) (Fault.is_hasty_rule (Fault.is_second c.args.self.now) made.making)
     (stray (Fault.is_second c.args.self.now) (Fault.own_leaf made.making)) c.any_stray.result
-    (sym (c.is_misplaced.ensures ∙ (λ i. Fault.is_misplaced (c.field.ensures i) (segment i))) ∙ c.if-is_misplaced.false)
+    (sym (c.is_misplaced.ensures ∙ (λ i. Fault.is_misplaced made (segment i))) ∙ c.if-is_misplaced.false)
     (sym (c.is_hasty_rule.ensures ∙ (λ i. Fault.is_hasty_rule (second i) made.making)) ∙ c.if-is_hasty_rule.false)
     (c.any_stray.ensures ∙ (λ i. stray (second i) (c.own_leaf.ensures i)))
