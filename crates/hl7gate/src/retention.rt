@@ -14,7 +14,8 @@ use std::sync::atomic::Ordering;
 use std::thread;
 use std::time::Duration;
 
-/// After how many looks the last file ends, where messages may go then; and after how many it ends that has a message, though some wait. A look comes each five seconds.
+/// After how many looks the last file ends, where messages may go then; and after how many it ends that has a message, though some wait.
+/// A look comes each five seconds.
 const SOON: u64 = 12;
 
 const LONG: u64 = 720;
@@ -60,7 +61,8 @@ fn since<J: Naming, S: Storage + Drop, R: Runtime + Wait>(hub: &Hub<'_, J, S, R>
     microseconds(hub.rt).saturating_sub(hub.days.saturating_mul(DAY))
 }
 
-/// Has all that was put be on the disk, and one record more. It repeats the margin of numbers, which changes nothing. False: the disk is short of room, or has failed.
+/// Has all that was put be on the disk, and one record more. It repeats the margin of numbers, which changes nothing.
+/// False: the disk is short of room, or has failed.
 pub(crate) fn bring<J: Naming, S: Storage + Drop, R: Runtime + Wait>(
     hub: &Hub<'_, J, S, R>,
 ) -> bool {
@@ -117,8 +119,8 @@ fn end_last<J: Naming, S: Storage + Drop, R: Runtime + Wait>(hub: &Hub<'_, J, S,
     is_ended && bring(hub)
 }
 
-/// Reads on, and has the files go that aren't needed: they go when the next one is begun. From where on records are needed, and from where on messages are left.
-/// None: not all could be read yet.
+/// Reads on, and has the files go that aren't needed: they go when the next one is begun.
+/// From where on records are needed, and from where on messages are left. None: not all could be read yet.
 fn look<J: Naming, S: Storage + Drop, R: Runtime + Wait, V: Calls + Drop>(
     hub: &Hub<'_, J, S, R>,
     keeper: &mut Keeper<V>,
