@@ -115,7 +115,7 @@ impl<V: Calls + Drop> Keeper<V> {
         Ok(())
     }
 
-    // Notes which file an event stands in, at this place.
+    // Notes the file of the event at this place.
     fn mark(&mut self, at: u64, time: u64, event: &Event<'_>) -> Result<(), AllocError> {
         let number = self.pages.segment();
         if number != self.number {

@@ -46,7 +46,7 @@ impl<J: Naming, V: Calls + Drop> Walk<J, V> {
         self.under = None;
     }
 
-    // Whether it can be read on from here to this place: it is the next, or stands in this file. Of the files between some may be gone.
+    // Whether it can be read on from here to this place: it is the next one, or in this file. Of the files between some may be gone.
     fn leads_to(&self, tail: Tail, place: u64) -> bool {
         let here = self.pages.place();
         if self.pages.segment() == 0 || here > place {

@@ -233,7 +233,9 @@ const FORMS: &[Form] = &[
     },
     Form {
         name: "tell",
-        about: "Sends a word to the gateway that works in a folder, and prints its answer: status, swap PATH, install PATH, hold NAME, go NAME, find CONTROL-ID, show PLACE, resend NAME or PLACE, replay NAME FROM TO, skip NAME, park NAME, seal, stop",
+        about: "Sends a word to the gateway that works in a folder, and prints its answer: status, swap PATH, \
+            install PATH, hold NAME, go NAME, find CONTROL-ID, show PLACE, resend NAME or PLACE, \
+            replay NAME FROM TO, skip NAME, park NAME, seal, stop",
         words: &[
             ("FOLDER", "The folder of the gateway"),
             ("WORD", "The word"),

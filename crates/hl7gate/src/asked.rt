@@ -11,6 +11,12 @@ use std::sync::Wait;
 use std::thread;
 use std::time::Duration;
 
+/// Which words a gateway takes.
+pub(crate) const WORDS: &str =
+    "status [--json], status --refused NAME [--values], swap PATH, install PATH, hold NAME, go NAME, \
+    find CONTROL-ID, show PLACE [--values], resend NAME, resend PLACE [NAME], replay NAME FROM TO, \
+    skip NAME, park NAME, seal, stop";
+
 /// After how many milliseconds it is looked whether a forwarder has done it, and for how many of these looks at most.
 const LOOK: u64 = 50;
 

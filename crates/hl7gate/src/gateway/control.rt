@@ -1,4 +1,5 @@
 //! Words to a running gateway, over the socket FOLDER/control: a line comes, an answer goes back, and the connection ends.
+use crate::asked::WORDS;
 use crate::ended::Ended;
 use crate::gateway::hub::Hub;
 use crate::gateway::page::state;
@@ -24,10 +25,6 @@ const LONGEST: u64 = 4_096;
 
 /// How many seconds a line may take to come, and an answer to be taken.
 const PATIENCE: u64 = 5;
-
-/// Which words there are.
-const WORDS: &str =
-    "status [--json], status --refused NAME [--values], swap PATH, install PATH, hold NAME, go NAME, find CONTROL-ID, show PLACE [--values], resend NAME, resend PLACE [NAME], replay NAME FROM TO, skip NAME, park NAME, seal, stop";
 
 /// The path of a folder's socket.
 pub(crate) fn control_path(alloc: Global, folder: &str) -> Result<String, AllocError> {
